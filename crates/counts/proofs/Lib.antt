@@ -1,0 +1,2 @@
+pub mod WordsOfCounts
+pub mod Fresh

@@ -1,0 +1,49 @@
+// begin and the two counts, in the table's last three words.
+mod making;
+
+pub use making::empty_table;
+pub use making::make;
+use table::Table;
+ghost use mathlib.Core.Path.{_≡_};
+ghost use Rattle.table.specs.Words.{tableOf};
+ghost use Rattle.counts.specs.Counts.{withBegin, withDefects, withBlossoms};
+
+// `blossom_begin`: the first slot that is no defect's.
+pub fn begin(t: &Table) -> u16
+    ensures { λ r. ⌜ r ≡ tableOf (now (t .entry)) .begin ⌝ }
+{
+    t[2816]
+}
+
+pub fn count_defects(t: &Table) -> u16
+    ensures { λ r. ⌜ r ≡ tableOf (now (t .entry)) .defects ⌝ }
+{
+    t[2817]
+}
+
+pub fn count_blossoms(t: &Table) -> u16
+    ensures { λ r. ⌜ r ≡ tableOf (now (t .entry)) .blossoms ⌝ }
+{
+    t[2818]
+}
+
+fn set_begin(t: &mut Table, n: u16)
+    ensures { λ _. ⌜ tableOf (now (t .exit)) ≡ withBegin (tableOf (now (t .entry))) n ⌝ }
+{
+    let words: &mut [u16] = t;
+    words[2816] = n;
+}
+
+pub fn set_count_defects(t: &mut Table, n: u16)
+    ensures { λ _. ⌜ tableOf (now (t .exit)) ≡ withDefects (tableOf (now (t .entry))) n ⌝ }
+{
+    let words: &mut [u16] = t;
+    words[2817] = n;
+}
+
+pub fn set_count_blossoms(t: &mut Table, n: u16)
+    ensures { λ _. ⌜ tableOf (now (t .exit)) ≡ withBlossoms (tableOf (now (t .entry))) n ⌝ }
+{
+    let words: &mut [u16] = t;
+    words[2818] = n;
+}

@@ -1,0 +1,1 @@
+// Definitions and laws on lists that the contracts of several crates cite. There is no code here.

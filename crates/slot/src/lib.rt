@@ -1,0 +1,11 @@
+// Numbers, links and slots as plain values: port 1 of document 01.
+pub mod link;
+pub mod number;
+pub mod state;
+pub mod value;
+
+pub use link::Link;
+pub use number::Node;
+pub use number::Vertex;
+pub use state::State;
+pub use value::Slot;

@@ -1,0 +1,3 @@
+pub mod WordsOfSlots
+pub mod Laws
+pub mod Determined
