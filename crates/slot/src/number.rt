@@ -1,7 +1,7 @@
 // Node numbers and vertex numbers count separate things, so each has a type of its own: one cannot be passed for the other.
 ghost use mathlib.Core.Path.{_≡_};
 ghost use Prim.Native.Nat.{_%_, _/_};
-ghost use Rattle.slot.specs.Number.{none, noVertex, vertexFrom};
+ghost use Rattle.slot.specs.Number.{vertexFrom};
 
 pub struct Node(pub u16);
 
@@ -11,18 +11,6 @@ pub struct Vertex(pub u32);
 pub const NO_NODE: u16 = 65535;
 
 pub const NO_VERTEX: u32 = 4294967295;
-
-pub fn no_node() -> Node
-    ensures { λ r. ⌜ r .0 ≡ none ⌝ }
-{
-    Node(NO_NODE)
-}
-
-pub fn no_vertex() -> Vertex
-    ensures { λ r. ⌜ r .0 ≡ noVertex ⌝ }
-{
-    Vertex(NO_VERTEX)
-}
 
 // A vertex number fills two words of the table, the low one first.
 pub fn vertex_from(low: u16, high: u16) -> Vertex

@@ -1,6 +1,6 @@
 // A slot's state, and the mark that stands for it in the table's words.
 ghost use mathlib.Core.Path.{_≡_};
-ghost use Rattle.slot.specs.State.{stateOf, markOf, isOuter, isPresent};
+ghost use Rattle.slot.specs.State.{stateOf, markOf, isOuter, isInner, isPresent};
 
 pub enum State {
     // No node.
@@ -50,6 +50,20 @@ pub fn is_outer(state: State) -> bool
         State::Stay => true,
         State::Grow => true,
         State::Shrink => true,
+        State::Damaged => false,
+    }
+}
+
+// Whether a node with this state is inside a blossom.
+pub fn is_inner(state: State) -> bool
+    ensures { λ r. ⌜ r ≡ isInner state ⌝ }
+{
+    match state {
+        State::Empty => false,
+        State::Inner => true,
+        State::Stay => false,
+        State::Grow => false,
+        State::Shrink => false,
         State::Damaged => false,
     }
 }

@@ -1,0 +1,70 @@
+// Single fields of a slot, and what they say of the node.
+use slot::Link;
+use slot::Node;
+use slot::State;
+use table::Table;
+ghost use mathlib.Core.Path.{_≡_};
+ghost use Rattle.slot.specs.Slot.{linkOf};
+ghost use Rattle.table.specs.Table.{at};
+ghost use Rattle.table.specs.Words.{tableOf};
+ghost use Rattle.nodes.specs.Nodes.{isBlossom, present, outer, inner};
+
+pub fn state(t: &Table, n: Node) -> State
+    ensures { λ r. ⌜ r ≡ at (tableOf (now (t .entry))) (n .0) .state ⌝ }
+{
+    table::get(t, n).state
+}
+
+pub fn parent(t: &Table, n: Node) -> Node
+    ensures { λ r. ⌜ r .0 ≡ at (tableOf (now (t .entry))) (n .0) .parent ⌝ }
+{
+    table::get(t, n).parent
+}
+
+pub fn first_child(t: &Table, n: Node) -> Node
+    ensures { λ r. ⌜ r .0 ≡ at (tableOf (now (t .entry))) (n .0) .firstChild ⌝ }
+{
+    table::get(t, n).first_child
+}
+
+pub fn sibling(t: &Table, n: Node) -> Node
+    ensures { λ r. ⌜ r .0 ≡ at (tableOf (now (t .entry))) (n .0) .sibling ⌝ }
+{
+    table::get(t, n).sibling
+}
+
+pub fn get_first_blossom_child(t: &Table, n: Node) -> Node
+    ensures { λ r. ⌜ r .0 ≡ at (tableOf (now (t .entry))) (n .0) .ring ⌝ }
+{
+    table::get(t, n).ring
+}
+
+pub fn link(t: &Table, n: Node) -> Link
+    ensures { λ r. ⌜ linkOf r ≡ at (tableOf (now (t .entry))) (n .0) .link ⌝ }
+{
+    table::get(t, n).link
+}
+
+pub fn is_blossom(t: &Table, n: Node) -> bool
+    ensures { λ r. ⌜ r ≡ isBlossom (tableOf (now (t .entry))) (n .0) ⌝ }
+{
+    counts::begin(t) <= n.0
+}
+
+pub fn has_node(t: &Table, n: Node) -> bool
+    ensures { λ r. ⌜ r ≡ present (tableOf (now (t .entry))) (n .0) ⌝ }
+{
+    slot::state::is_present(state(t, n))
+}
+
+pub fn is_outer(t: &Table, n: Node) -> bool
+    ensures { λ r. ⌜ r ≡ outer (tableOf (now (t .entry))) (n .0) ⌝ }
+{
+    slot::state::is_outer(state(t, n))
+}
+
+pub fn is_inner(t: &Table, n: Node) -> bool
+    ensures { λ r. ⌜ r ≡ inner (tableOf (now (t .entry))) (n .0) ⌝ }
+{
+    slot::state::is_inner(state(t, n))
+}

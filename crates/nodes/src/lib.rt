@@ -1,0 +1,3 @@
+// What one asks of a node. Every function takes any table and any number: past the table stands the empty slot.
+pub mod climb;
+pub mod field;
