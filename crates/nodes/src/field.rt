@@ -54,17 +54,41 @@ pub fn is_blossom(t: &Table, n: Node) -> bool
 pub fn has_node(t: &Table, n: Node) -> bool
     ensures { λ r. ⌜ r ≡ present (tableOf (now (t .entry))) (n .0) ⌝ }
 {
-    slot::state::is_present(state(t, n))
+    let state = table::get(t, n).state;
+    match state {
+        State::Empty => false,
+        State::Inner => true,
+        State::Stay => true,
+        State::Grow => true,
+        State::Shrink => true,
+        State::Damaged => true,
+    }
 }
 
 pub fn is_outer(t: &Table, n: Node) -> bool
     ensures { λ r. ⌜ r ≡ outer (tableOf (now (t .entry))) (n .0) ⌝ }
 {
-    slot::state::is_outer(state(t, n))
+    let state = table::get(t, n).state;
+    match state {
+        State::Empty => false,
+        State::Inner => false,
+        State::Stay => true,
+        State::Grow => true,
+        State::Shrink => true,
+        State::Damaged => false,
+    }
 }
 
 pub fn is_inner(t: &Table, n: Node) -> bool
     ensures { λ r. ⌜ r ≡ inner (tableOf (now (t .entry))) (n .0) ⌝ }
 {
-    slot::state::is_inner(state(t, n))
+    let state = table::get(t, n).state;
+    match state {
+        State::Empty => false,
+        State::Inner => true,
+        State::Stay => false,
+        State::Grow => false,
+        State::Shrink => false,
+        State::Damaged => false,
+    }
 }

@@ -1,6 +1,6 @@
 // A slot's state, and the mark that stands for it in the table's words.
 ghost use mathlib.Core.Path.{_≡_};
-ghost use Rattle.slot.specs.State.{stateOf, markOf, isOuter, isInner, isPresent};
+ghost use Rattle.slot.specs.State.{stateOf, markOf};
 
 pub enum State {
     // No node.
@@ -37,47 +37,5 @@ pub fn mark_of(state: State) -> u16
         State::Grow => 3,
         State::Shrink => 4,
         State::Damaged => 5,
-    }
-}
-
-// Whether a node with this state is outer.
-pub fn is_outer(state: State) -> bool
-    ensures { λ r. ⌜ r ≡ isOuter state ⌝ }
-{
-    match state {
-        State::Empty => false,
-        State::Inner => false,
-        State::Stay => true,
-        State::Grow => true,
-        State::Shrink => true,
-        State::Damaged => false,
-    }
-}
-
-// Whether a node with this state is inside a blossom.
-pub fn is_inner(state: State) -> bool
-    ensures { λ r. ⌜ r ≡ isInner state ⌝ }
-{
-    match state {
-        State::Empty => false,
-        State::Inner => true,
-        State::Stay => false,
-        State::Grow => false,
-        State::Shrink => false,
-        State::Damaged => false,
-    }
-}
-
-// The presence mark of 01: anything but an empty slot.
-pub fn is_present(state: State) -> bool
-    ensures { λ r. ⌜ r ≡ isPresent state ⌝ }
-{
-    match state {
-        State::Empty => false,
-        State::Inner => true,
-        State::Stay => true,
-        State::Grow => true,
-        State::Shrink => true,
-        State::Damaged => true,
     }
 }

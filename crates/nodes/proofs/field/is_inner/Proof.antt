@@ -1,11 +1,23 @@
-use Rattle.slot.specs.State.{isInner}
-use mathlib.Core.Path.{ap, _∙_}
 use borrow.Author.Needs.{needs}
+use Rattle.slot.specs.State.{isInner}
+use Rattle.nodes.proofs.ByState.{by-state}
 use Rattle.nodes.proofs.field.is_inner.Statement.{statement}
 use Rattle.nodes.proofs.field.is_inner.Tie as tie
 
 pub is-inner-spec : {M : Type 1} → statement M
-is-inner-spec = tie.close (tie.spec
+is-inner-spec =
+    tie.close
+    (tie.spec
     (λ c κs. search needs)
-    (λ c κs. search needs)
-    (λ c. (c .is-inner .ensures) ∙ ap isInner (c .before .state .ensures)))
+    (λ c. search needs)
+    (λ c. search needs)
+    (λ c. search needs)
+    (λ c. search needs)
+    (λ c. search needs)
+    (λ c. search needs)
+    (λ c. by-state isInner _ _ _ (c .before .before .get .ensures) (c .enum-told .given .1))
+    (λ c. by-state isInner _ _ _ (c .before .before .get .ensures) (c .enum-told2 .given .1))
+    (λ c. by-state isInner _ _ _ (c .before .before .get .ensures) (c .enum-told3 .given .1))
+    (λ c. by-state isInner _ _ _ (c .before .before .get .ensures) (c .enum-told4 .given .1))
+    (λ c. by-state isInner _ _ _ (c .before .before .get .ensures) (c .enum-told5 .given .1))
+    (λ c. by-state isInner _ _ _ (c .before .before .get .ensures) (c .enum-told6 .given .1)))
