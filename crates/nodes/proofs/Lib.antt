@@ -1,3 +1,4 @@
-pub mod Climbs
 pub mod ByState
+pub mod Climbs
 pub mod Examples
+pub mod Places

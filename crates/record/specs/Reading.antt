@@ -1,0 +1,68 @@
+-- What reading a tape finds. "Reading takes requests alone. Bad: cut short, other kind, other length."
+use mathlib.Core.Path.{_≡_}
+use Prim.Native.Nat.{ℕ, _+_, _<_}
+use mathlib.Core.Bool.{false}
+use mathlib.Core.List.{List}
+use mathlib.Core.Logic.{_⊎_}
+use lib.ListN.{length, take, drop}
+use lib.Dec.{eqb, ltb}
+use Rattle.lists.specs.Choice.{pick}
+use Rattle.refusal.specs.declared.Refusal.the-variants.{BadRecord}
+use Rattle.record.specs.declared.kind.Kind.{Kind}
+use Rattle.record.specs.declared.kind.Kind.the-variants as K
+use Rattle.record.specs.declared.kind.Layout.{Layout}
+use Rattle.record.specs.declared.request.Request.the-variants as Q
+use Rattle.record.specs.declared.request.Reading.{Reading}
+use Rattle.record.specs.declared.request.Reading.the-variants as R
+use Rattle.record.specs.Kinds.{widths, isRequest, layoutOf}
+use Rattle.record.specs.Fields.{number, decode}
+use Rattle.record.specs.Records.{conflictFrom, virtualFrom, expansionFrom}
+
+-- the length that a record states, and what its kind says
+abbrev pub lengthAt : List ℕ → ℕ
+lengthAt bs = number (take 2 bs)
+
+abbrev pub layoutAt : List ℕ → Layout
+layoutAt bs = layoutOf (number (take 2 (drop 2 bs)))
+
+abbrev pub bad : Reading
+bad = R.Refused BadRecord
+
+-- the request of a kind with these fields, and the bytes that its record fills; an answer's kind is an other kind here
+abbrev pub asked : Kind → List ℕ → ℕ → Reading
+asked K.Conflict vs n = R.Request (Q.Conflict (conflictFrom vs)) n
+asked K.VirtualConflict vs n = R.Request (Q.VirtualConflict (virtualFrom vs)) n
+asked K.Expansion vs n = R.Request (Q.Expansion (expansionFrom vs)) n
+asked K.Reset vs n = R.Request Q.Reset n
+asked K.List vs n = R.Request Q.List n
+asked K.Speed vs n = bad
+asked K.Create vs n = bad
+asked K.Expand vs n = bad
+asked K.End vs n = bad
+asked K.Pair vs n = bad
+asked K.VirtualPair vs n = bad
+asked K.Other vs n = bad
+
+-- what the record's first bytes leave to say: its length must be its kind's
+abbrev pub readAs : Layout → List ℕ → Reading
+readAs l bs = pick (eqb (lengthAt bs) (l .length)) (asked (l .kind) (decode (widths (l .kind)) (drop 4 bs)) (2 + lengthAt bs)) bad
+
+-- the record that stands first in bs; a record has at least its length and its kind, four bytes
+unfoldable pub read : List ℕ → Reading
+read bs = pick (ltb (length bs) 4) bad (pick (ltb (length bs) (2 + lengthAt bs)) bad (readAs (layoutAt bs) bs))
+
+-- ---- the three ways to be bad, as 01 names them
+
+abbrev pub CutShort : List ℕ → Type 0
+CutShort bs = (length bs < 4) ⊎ (length bs < 2 + lengthAt bs)
+
+abbrev pub OtherKind : List ℕ → Type 0
+OtherKind bs = isRequest (layoutAt bs .kind) ≡ false
+
+abbrev pub OtherLength : List ℕ → Type 0
+OtherLength bs = lengthAt bs ≡ layoutAt bs .length → ⊥
+
+pub data Bad (bs : List ℕ) : Type 0 where
+  cut-short : CutShort bs → Bad bs
+  other-kind : OtherKind bs → Bad bs
+  other-length : OtherLength bs → Bad bs

@@ -1,0 +1,6 @@
+pub mod Script
+pub mod Marked
+pub mod OwnExamples
+pub mod RefusalExamples
+pub mod SoundExamples
+pub mod RunExamples

@@ -1,0 +1,85 @@
+-- The answer that document 01 prints for the program's tape, and the four stops of a run in their order.
+use mathlib.Core.Path.{_≡_, refl}
+use mathlib.Core.List.{List, [], _∷_, _++_}
+use Prim.Native.Nat.{ℕ}
+use lib.ListN.{length, take, replicate}
+use Rattle.table.specs.Table.{Table, put}
+use Rattle.slot.specs.Slot.{newNode}
+use Rattle.counts.specs.Making.{fresh}
+use Rattle.record.specs.declared.request.Request.{Request}
+use Rattle.record.specs.declared.request.Request.the-variants as Q
+use Rattle.record.specs.Kinds.{layoutOf}
+use Rattle.record.specs.Records.{requestBytes, answerBytes}
+use Rattle.record.specs.Reading as reading
+use Rattle.record.specs.Writing.{outOf, placed, written, writeAll}
+use Rattle.rules.specs.Act.{World}
+use Rattle.rules.specs.Run.{Ran, unsound, ran, Ended, stopNumber, runTape}
+use Rattle.rules.proofs.Script.{meet, all-rules}
+
+-- conflict 0, 1 (touches 0, 1, vertices 10, 11), then list
+tape : List ℕ
+tape = requestBytes (meet 0 1 0 1 10 11) ++ requestBytes Q.List
+
+world : ℕ → World
+world room = record { table = fresh 128; out = outOf (replicate room 0) 0 }
+
+-- what a run reports: the stop, the records handled, the bytes written, how much of the tape is left
+pub record Report : Type 0 where
+  pub stop : ℕ
+  pub handled : ℕ
+  pub written : ℕ
+  pub unread : ℕ
+
+report : ℕ → ℕ → ℕ → ℕ → Report
+report s h w u = record { stop = s; handled = h; written = w; unread = u }
+
+reported : Ran → Report
+reported unsound = report 99 0 0 0
+reported (ran e) = report (stopNumber (e .stop)) (e .progress .handled) (e .progress .world .out .pos) (length (e .progress .rest))
+
+bytesOf : Ran → List ℕ
+bytesOf unsound = []
+bytesOf (ran e) = take (e .progress .world .out .pos) (e .progress .world .out .buf)
+
+printed : List ℕ
+printed =
+    0x06 ∷ 0x00 ∷ 0x10 ∷ 0x00 ∷ 0x00 ∷ 0x00 ∷ 0x00 ∷ 0x00
+    ∷ 0x06 ∷ 0x00 ∷ 0x10 ∷ 0x00 ∷ 0x01 ∷ 0x00 ∷ 0x00 ∷ 0x00
+    ∷ 0x04 ∷ 0x00 ∷ 0x13 ∷ 0x00 ∷ 0x00 ∷ 0x00
+    ∷ 0x0E ∷ 0x00 ∷ 0x14 ∷ 0x00 ∷ 0x00 ∷ 0x00 ∷ 0x01 ∷ 0x00
+    ∷ 0x0A ∷ 0x00 ∷ 0x00 ∷ 0x00 ∷ 0x0B ∷ 0x00 ∷ 0x00 ∷ 0x00
+    ∷ 0x04 ∷ 0x00 ∷ 0x13 ∷ 0x00 ∷ 0x00 ∷ 0x00
+    ∷ []
+
+program-answer : bytesOf (runTape 10 (world 4200) tape) ≡ printed
+unfolding all-rules tape world bytesOf printed requestBytes answerBytes layoutOf reading.read placed written writeAll
+program-answer = refl
+
+-- all of the tape; one record allowed; no room for a second; a bad third record
+stops :
+    (reported (runTape 10 (world 4200) tape) ≡ report 0 2 44 0)
+    × (reported (runTape 1 (world 4200) tape) ≡ report 1 1 22 4)
+    × (reported (runTape 10 (world 4102) tape) ≡ report 2 1 22 4)
+    × (reported (runTape 10 (world 4101) tape) ≡ report 2 0 0 24)
+    × (reported (runTape 10 (world 4200) (tape ++ 7 ∷ [])) ≡ report 3 2 44 1)
+unfolding all-rules tape world reported report requestBytes answerBytes layoutOf reading.read placed written writeAll
+stops = (refl, refl, refl, refl, refl)
+
+-- an empty tape before an allowance of 0, that before the room, the room before a bad record
+stop-order :
+    (reported (runTape 0 (world 0) []) ≡ report 0 0 0 0)
+    × (reported (runTape 0 (world 0) (7 ∷ [])) ≡ report 1 0 0 1)
+    × (reported (runTape 1 (world 0) (7 ∷ [])) ≡ report 2 0 0 1)
+    × (reported (runTape 1 (world 4102) (7 ∷ [])) ≡ report 3 0 0 1)
+unfolding all-rules world reported report requestBytes answerBytes layoutOf reading.read placed written writeAll
+stop-order = (refl, refl, refl, refl)
+
+-- a refused request yields only its end record, and counts as handled
+refused-in-a-run : bytesOf (runTape 10 (world 4200) (requestBytes (meet 0 0 0 0 10 11))) ≡ 0x04 ∷ 0x00 ∷ 0x13 ∷ 0x00 ∷ 0x05 ∷ 0x00 ∷ []
+unfolding all-rules world bytesOf requestBytes answerBytes layoutOf reading.read placed written writeAll
+refused-in-a-run = refl
+
+-- an unsound table is refused before any stop
+unsound-first : runTape 0 (record { table = put (fresh 128) 0 newNode; out = outOf [] 0 }) [] ≡ unsound
+unfolding all-rules
+unsound-first = refl

@@ -1,0 +1,50 @@
+-- What each request answers: refused, and nothing changes; or accepted, and its rule is done.
+use Prim.Native.Nat.{ℕ}
+use mathlib.Core.List.{List, []}
+use Rattle.table.specs.Table.{Table}
+use Rattle.counts.specs.Making.{emptied}
+use Rattle.record.specs.declared.request.Request.{Request}
+use Rattle.record.specs.declared.request.Request.the-variants as Q
+use Rattle.record.specs.declared.answer.Record.{Record}
+use Rattle.refusal.specs.Refusal.{numberOf}
+use Rattle.rules.specs.Act.{Act, Did, skip, change}
+use Rattle.rules.specs.Conflict.{conflict, virtualConflict}
+use Rattle.rules.specs.Expansion.{expansion}
+use Rattle.rules.specs.Listing.{listing}
+use Rattle.rules.specs.Refusals.{Verdict, accepted, refused, Check, firstOf, conflictChecks, virtualChecks, expansionChecks, resetChecks, listChecks}
+
+-- the listing leaves the table as it is
+unfoldable pub list : Act
+list t = record { table = t; said = listing t }
+
+-- the rule of an accepted request
+abbrev pub actOf : Request → Act
+actOf (Q.Conflict c) = conflict c
+actOf (Q.VirtualConflict c) = virtualConflict c
+actOf (Q.Expansion e) = expansion (e .node .0)
+actOf Q.Reset = change emptied
+actOf Q.List = list
+
+abbrev pub checksOf : Request → Table → ℕ → List Check
+checksOf (Q.Conflict c) t room = conflictChecks t room c
+checksOf (Q.VirtualConflict c) t room = virtualChecks t room c
+checksOf (Q.Expansion e) t room = expansionChecks t room e
+checksOf Q.Reset t room = resetChecks t
+checksOf Q.List t room = listChecks t room
+
+unfoldable pub verdict : Request → Table → ℕ → Verdict
+verdict r t room = firstOf (checksOf r t room)
+
+-- "Each refusal returns its number and the table as given, loads nothing, writes nothing."
+abbrev pub actBy : Verdict → Request → Act
+actBy accepted r = actOf r
+actBy (refused n) r = skip
+
+-- 0, or the refusal's number
+abbrev pub verdictNumber : Verdict → ℕ
+verdictNumber accepted = 0
+verdictNumber (refused n) = numberOf n
+
+-- what a request does on a table with so much room for what it writes
+unfoldable pub answered : Request → ℕ → Table → Did
+answered r room t = actBy (verdict r t room) r t

@@ -1,0 +1,14 @@
+pub mod Act
+pub mod Slots
+pub mod Walk
+pub mod Sound
+pub mod Trees
+pub mod Matching
+pub mod Blossom
+pub mod Expansion
+pub mod Conflict
+pub mod Listing
+pub mod Refusals
+pub mod Calls
+pub mod Concerns
+pub mod Run

@@ -1,0 +1,78 @@
+-- A run: a tape of records, handled one after another.
+use Prim.Native.Nat.{ℕ, zero, suc, _+_, _-_}
+use mathlib.Core.Bool.{Bool}
+use mathlib.Core.List.{List, [], _∷_, _++_}
+use lib.Dec.{eqb, ltb}
+use lib.ListN.{length, drop}
+use Rattle.lists.specs.Choice.{pick}
+use Rattle.table.specs.Table.{Table}
+use Rattle.refusal.specs.declared.Refusal.{Refusal}
+use Rattle.record.specs.declared.request.Request.{Request}
+use Rattle.record.specs.declared.request.Reading.{Reading}
+use Rattle.record.specs.declared.request.Reading.the-variants as G
+use Rattle.record.specs.declared.answer.Record.the-variants as R
+use Rattle.record.specs.Reading as reading
+use Rattle.record.specs.Writing.{Out, writeAll}
+use Rattle.rules.specs.Act.{World, Did, choose}
+use Rattle.rules.specs.Sound.{sound}
+use Rattle.rules.specs.Calls.{answered, verdict, verdictNumber}
+
+-- "it stops, in this order: tape empty (0), allowance used up (1), output below 4,102 bytes (2), bad record (3)"
+pub data Stop : Type 0 where
+  tapeEmpty allowanceUsed outputFull badRecord : Stop
+
+abbrev pub stopNumber : Stop → ℕ
+stopNumber tapeEmpty = 0
+stopNumber allowanceUsed = 1
+stopNumber outputFull = 2
+stopNumber badRecord = 3
+
+-- where a run stands: table and output, "the unread rest of the caller's tape", "how many records it handled"
+pub record Progress : Type 0 where
+  pub world : World
+  pub rest : List ℕ
+  pub handled : ℕ
+
+pub record Ended : Type 0 where
+  pub stop : Stop
+  pub progress : Progress
+
+abbrev pub room : World → ℕ
+room w = length (w .out .buf) - w .out .pos
+
+-- a request on the table, its records and then its end record: "A refused request yields only its end record and the run goes on."
+unfoldable pub served : Request → World → World
+served r w =
+    let d = answered r (room w) (w .table) in
+    let n = verdictNumber (verdict r (w .table) (room w)) in
+    record { table = d .table; out = writeAll (w .out) (d .said ++ R.End n ∷ []) }
+
+abbrev pub stopped : Stop → Progress → Ended
+stopped s p = record { stop = s; progress = p }
+
+-- one record handled, of so many bytes
+abbrev pub advanced : Request → ℕ → Progress → Progress
+advanced r size p = record { world = served r (p .world); rest = drop size (p .rest); handled = p .handled + 1 }
+
+-- what a reading leads to: go on, or stop at a bad record
+abbrev pub goOn : (Progress → Ended) → Reading → Progress → Ended
+goOn more (G.Request r size) p = more (advanced r size p)
+goOn more (G.Refused n) p = stopped badRecord p
+
+-- "Before each record it stops, in this order"; the allowance goes down by one a record
+unfoldable pub runFrom : ℕ → Progress → Ended
+runFrom zero p = pick (eqb (length (p .rest)) 0) (stopped tapeEmpty p) (stopped allowanceUsed p)
+runFrom (suc k) p =
+    let next = goOn (runFrom k) (reading.read (p .rest)) p in
+    pick (eqb (length (p .rest)) 0) (stopped tapeEmpty p) (pick (ltb (room (p .world)) 4102) (stopped outputFull p) next)
+
+-- "On an unsound table: refusal 1 before any stop, nothing handled."
+pub data Ran : Type 0 where
+  unsound : Ran
+  ran : Ended → Ran
+
+abbrev pub began : World → List ℕ → Progress
+began w tape = record { world = w; rest = tape; handled = 0 }
+
+unfoldable pub runTape : ℕ → World → List ℕ → Ran
+runTape allowance w tape = let e = ran (runFrom allowance (began w tape)) in pick (sound (w .table)) e unsound
