@@ -1,2 +1,6 @@
 pub mod Layouts
 pub mod Written
+pub mod Codec
+pub mod Read
+pub mod Examples
+pub mod Theorems

@@ -2,13 +2,15 @@
 use mathlib.Core.Path.{_≡_, refl, sym, ap, _∙_}
 use mathlib.Core.Bool.{Bool, true, false}
 use mathlib.Core.List.{List, [], _∷_, _++_}
-use Prim.Native.Nat.{ℕ, _+_, _-_, _≤_, _<_}
-use native.Mathlib.Nat.{add-zero}
+use Prim.Native.Nat.{ℕ, suc, _+_, _-_, _≤_, _<_}
+use native.Mathlib.Nat.{add-zero, add-suc}
 use native.Mathlib.Omega.{arith}
 use lib.Dec.{ltb}
-use lib.ListN.{length, length-append}
+use lib.ListN.{length, take, drop, set, length-append}
+use lib.Seq.{sets, sets-eq}
 use borrow.Author.Tests.{lt-ltb, le-ltb}
 use Rattle.lists.specs.Choice.{pick}
+use Rattle.lists.specs.Stores.{stores}
 use Rattle.lists.proofs.Stores.{length-stores, stores-join}
 use Rattle.refusal.specs.declared.Refusal.the-variants.{NoRecordRoom}
 use Rattle.refusal.specs.declared.Answer.the-variants.{Done, Refused}
@@ -34,6 +36,15 @@ pub joined :
     → l₂ ≡ placed l p (xs ++ ys)
 unfolding placed
 joined l l₁ l₂ xs ys p m e f h = f ∙ rw (e, stores-join xs ys l p m h)
+
+stores-sets : (bs l : List ℕ) (p k : ℕ) → stores l p k bs ≡ sets l (p + k) bs
+stores-sets [] l p k = refl
+stores-sets (b ∷ bs) l p k = rw (← add-suc) (stores-sets bs (set l (p + k) b) p (suc k))
+
+-- exactly the placed bytes change
+pub placed-parts : (l : List ℕ) (p : ℕ) (bs : List ℕ) → p + length bs ≤ length l → placed l p bs ≡ take p l ++ bs ++ drop (p + length bs) l
+unfolding placed
+placed-parts l p bs h = stores-sets bs l p 0 ∙ rw add-zero (sets-eq bs l p h)
 
 -- no record is empty
 pub answer-some : (r : Record) → 0 < length (answerBytes r)

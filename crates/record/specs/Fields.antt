@@ -30,3 +30,8 @@ AllFit [] [] = Unit {0}
 AllFit [] (v ∷ vs) = ⊥
 AllFit (w ∷ ws) [] = ⊥
 AllFit (w ∷ ws) (v ∷ vs) = (v < 256 ^ w) × AllFit ws vs
+
+-- each is a byte
+abbrev pub AllBytes : List ℕ → Type 0
+AllBytes [] = Unit {0}
+AllBytes (b ∷ bs) = (b < 256) × AllBytes bs

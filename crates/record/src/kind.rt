@@ -27,53 +27,97 @@ pub struct Layout {
 }
 
 // 01: "Requests: 1 conflict [..] length 18 [..] Answers: 16 speed [..] 6".
+pub const CONFLICT: u16 = 1;
+
+pub const CONFLICT_LENGTH: u16 = 18;
+
+pub const VIRTUAL_CONFLICT: u16 = 2;
+
+pub const VIRTUAL_CONFLICT_LENGTH: u16 = 14;
+
+pub const EXPANSION: u16 = 3;
+
+pub const EXPANSION_LENGTH: u16 = 4;
+
+pub const RESET: u16 = 4;
+
+pub const RESET_LENGTH: u16 = 2;
+
+pub const LIST: u16 = 5;
+
+pub const LIST_LENGTH: u16 = 2;
+
+pub const SPEED: u16 = 16;
+
+pub const SPEED_LENGTH: u16 = 6;
+
+pub const CREATE: u16 = 17;
+
+pub const CREATE_LENGTH: u16 = 4;
+
+pub const EXPAND: u16 = 18;
+
+pub const EXPAND_LENGTH: u16 = 4;
+
+pub const END: u16 = 19;
+
+pub const END_LENGTH: u16 = 4;
+
+pub const PAIR: u16 = 20;
+
+pub const PAIR_LENGTH: u16 = 14;
+
+pub const VIRTUAL_PAIR: u16 = 21;
+
+pub const VIRTUAL_PAIR_LENGTH: u16 = 12;
+
 pub fn layout_of(kind: u16) -> Layout
     ensures { λ r. ⌜ r ≡ layoutOf kind ⌝ }
 {
     match kind {
-        1 => Layout {
+        CONFLICT => Layout {
             kind: Kind::Conflict,
-            length: 18,
+            length: CONFLICT_LENGTH,
         },
-        2 => Layout {
+        VIRTUAL_CONFLICT => Layout {
             kind: Kind::VirtualConflict,
-            length: 14,
+            length: VIRTUAL_CONFLICT_LENGTH,
         },
-        3 => Layout {
+        EXPANSION => Layout {
             kind: Kind::Expansion,
-            length: 4,
+            length: EXPANSION_LENGTH,
         },
-        4 => Layout {
+        RESET => Layout {
             kind: Kind::Reset,
-            length: 2,
+            length: RESET_LENGTH,
         },
-        5 => Layout {
+        LIST => Layout {
             kind: Kind::List,
-            length: 2,
+            length: LIST_LENGTH,
         },
-        16 => Layout {
+        SPEED => Layout {
             kind: Kind::Speed,
-            length: 6,
+            length: SPEED_LENGTH,
         },
-        17 => Layout {
+        CREATE => Layout {
             kind: Kind::Create,
-            length: 4,
+            length: CREATE_LENGTH,
         },
-        18 => Layout {
+        EXPAND => Layout {
             kind: Kind::Expand,
-            length: 4,
+            length: EXPAND_LENGTH,
         },
-        19 => Layout {
+        END => Layout {
             kind: Kind::End,
-            length: 4,
+            length: END_LENGTH,
         },
-        20 => Layout {
+        PAIR => Layout {
             kind: Kind::Pair,
-            length: 14,
+            length: PAIR_LENGTH,
         },
-        21 => Layout {
+        VIRTUAL_PAIR => Layout {
             kind: Kind::VirtualPair,
-            length: 12,
+            length: VIRTUAL_PAIR_LENGTH,
         },
         0 | 6..=15 | 22..=65535 => Layout {
             kind: Kind::Other,

@@ -1,3 +1,4 @@
+pub mod Runs
 pub mod Script
 pub mod Marked
 pub mod OwnExamples
