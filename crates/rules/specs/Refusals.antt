@@ -68,10 +68,14 @@ isGrowing t n = isGrow (seen t n .state)
 abbrev pub makesBlossom : Table → ℕ → ℕ → Bool
 makesBlossom t x y = inTree (seen t x) && inTree (seen t y) && sameTree t x y
 
--- the present ones of the first n slots that are defects
+-- 1 for a present defect
+unfoldable pub defectAt : Table → ℕ → ℕ
+defectAt t n = pick (isDefect t n && present t n) 1 0
+
+-- the present defects below n
 unfoldable pub defectsBelow : ℕ → Table → ℕ
 defectsBelow zero t = 0
-defectsBelow (suc n) t = let rest = defectsBelow n t in pick (isDefect t n && present t n) (rest + 1) rest
+defectsBelow (suc n) t = defectsBelow n t + defectAt t n
 
 abbrev pub presentDefects : Table → ℕ
 presentDefects t = defectsBelow 256 t

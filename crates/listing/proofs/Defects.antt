@@ -1,0 +1,43 @@
+-- The present defects, counted slot by slot.
+use mathlib.Core.Path.{_≡_, refl, sym, ap, _∙_}
+use mathlib.Core.Bool.{Bool, true, false, _&&_}
+use Prim.Native.Nat.{ℕ, suc, _+_, _≤_, _<_}
+use native.Mathlib.Omega.{arith}
+use native.Mathlib.Numerals.{add-one}
+use lib.Dec.{leb, ltb}
+use borrow.Author.Tests.{leb-true, leb-false, lt-ltb, le-ltb}
+use Rattle.lists.specs.Choice.{pick}
+use Rattle.table.specs.Table.{Table}
+use Rattle.nodes.specs.Nodes.{isBlossom, isDefect, present}
+use Rattle.rules.specs.Refusals.{defectAt, defectsBelow}
+
+module _ (t : Table) (n : ℕ) where
+  pub blossom-is-none : isBlossom t n ≡ true → 0 ≡ defectAt t n
+  unfolding defectAt
+  blossom-is-none b = rw (le-ltb n (t .begin) (leb-true (t .begin) n b))
+
+  pub present-is-one : isBlossom t n ≡ false → present t n ≡ true → 1 ≡ defectAt t n
+  unfolding defectAt
+  present-is-one b p = rw (lt-ltb n (t .begin) (leb-false (t .begin) n b), p)
+
+  pub absent-is-none : isBlossom t n ≡ false → present t n ≡ false → 0 ≡ defectAt t n
+  unfolding defectAt
+  absent-is-none b p = rw (lt-ltb n (t .begin) (leb-false (t .begin) n b), p)
+
+  pub one-more :
+      (m i found : ℕ)
+      → found ≡ defectsBelow i t
+      → n ≡ i
+      → m ≡ defectAt t n
+      → found + m ≡ defectsBelow (i + 1) t
+  unfolding defectsBelow
+  one-more m i found p e q = rw (p, q, e, add-one)
+
+  -- so the count never passes its type
+  pub at-most-one : (m : ℕ) → m ≡ defectAt t n → m ≤ 1
+  unfolding defectAt
+  at-most-one m q = rw q (bound (isDefect t n && present t n))
+    where
+      bound : (b : Bool) → pick {A = ℕ} b 1 0 ≤ 1
+      bound true = omega arith
+      bound false = omega arith

@@ -1,0 +1,31 @@
+use native.Mathlib.Omega.{arith}
+use borrow.Author.Needs.{needs}
+use Rattle.listing.proofs.Defects.{one-more, at-most-one}
+use Rattle.rules.specs.Refusals.{defectsBelow}
+use Rattle.table.specs.Words.{tableOf}
+use Prim.Native.Nat.{_≤_, _-_}
+use mathlib.Core.Path.{_≡_, refl}
+use Rattle.listing.proofs.present_defects.Statement.{statement}
+use Rattle.listing.proofs.present_defects.Tie as tie
+
+abbrev Inv-loop : tie.InvT-loop
+Inv-loop t found₀ i₀ found i = (found ≡ defectsBelow i (tableOf t)) × (i ≤ 256) × (found ≤ i)
+
+abbrev μ-loop : tie.MeasureT-loop
+μ-loop t found₀ i₀ found i = 256 - i
+
+pub present-defects-spec : {M : Type 1} → statement M
+unfolding defectsBelow
+present-defects-spec =
+    tie.close
+    (tie.spec
+    Inv-loop
+    μ-loop
+    (λ c. (refl, search needs, search needs))
+    (λ c κs. search needs)
+    (λ c κs. search needs)
+    (λ c. omega (arith, at-most-one _ _ _ (c .defect-at .ensures)))
+    (λ c. search needs)
+    (λ c. search needs)
+    (λ c. (one-more _ _ _ _ _ (c .before .before .before .loop .inv .0) (c .before .narrow .ensures) (c .defect-at .ensures), search needs, omega (arith, at-most-one _ _ _ (c .defect-at .ensures))))
+    (λ c. let e : (c .before .loop .i) ≡ 256 = omega arith in rw e at (c .before .loop .inv .0)))
