@@ -1,0 +1,93 @@
+// Augmenting a tree (01, "What a conflict does"): to the root, and each subtree matched on the way.
+use nodes::field;
+use slot::Node;
+use slot::Slot;
+use table::Table;
+ghost use mathlib.Core.Path.{_≡_};
+ghost use Rattle.table.specs.Words.{tableOf};
+ghost use Rattle.rules.specs.Act.{worldOf, run, alter};
+ghost use Rattle.rules.specs.Slots.{withFirstChild};
+ghost use Rattle.slot.specs.Number.{none};
+ghost use Rattle.rules.specs.Matching.{matchSiblings, matchSubtree, augmentSubtree, augmentWithin, augmentWholeTree};
+
+// The subtree of the − node n: its child with it, by the child's link, then the children that the child had.
+fn match_subtree(t: &mut Table, out: &mut [u8], pos: usize, n: Node, left: usize) -> usize
+    ensures { λ r. ⌜ worldOf (now (t .exit)) (now (out .exit)) r ≡ run (worldOf (now (t .entry)) (now (out .entry)) pos) (matchSubtree left (n .0)) ⌝ }
+{
+    let child = field::first_child(t, n);
+    let link = field::link(t, child);
+    let first_grandchild = field::first_child(t, child);
+    let p = pairing::temporary_match(t, out, pos, child, link, n);
+    match_siblings(t, out, p, first_grandchild, left)
+}
+
+// n and its siblings, each with its subtree. The next sibling is read before the match, which replaces it.
+fn match_siblings(t: &mut Table, out: &mut [u8], pos: usize, n: Node, left: usize) -> usize
+    ensures { λ r. ⌜ worldOf (now (t .exit)) (now (out .exit)) r ≡ run (worldOf (now (t .entry)) (now (out .entry)) pos) (matchSiblings left (n .0)) ⌝ }
+{
+    if left == 0 {
+        return pos;
+    }
+    if n.0 == slot::number::NO_NODE {
+        return pos;
+    }
+    let next = field::sibling(t, n);
+    let p = match_subtree(t, out, pos, n, left - 1);
+    match_siblings(t, out, p, next, left - 1)
+}
+
+fn cut_children(t: &mut Table, n: Node)
+    ensures { λ _. ⌜ tableOf (now (t .exit)) ≡ alter (n .0) (withFirstChild none) (tableOf (now (t .entry))) ⌝ }
+{
+    let s = table::get(t, n);
+    let state = s.state;
+    let parent = s.parent;
+    let sibling = s.sibling;
+    let ring = s.ring;
+    let link = s.link;
+    table::store(
+        t,
+        n,
+        Slot {
+            state,
+            parent,
+            first_child: Node(slot::number::NO_NODE),
+            sibling,
+            ring,
+            link,
+        },
+    );
+}
+
+// The + node n keeps its place; its children go.
+fn augment_subtree(t: &mut Table, out: &mut [u8], pos: usize, n: Node) -> usize
+    ensures { λ r. ⌜ worldOf (now (t .exit)) (now (out .exit)) r ≡ run (worldOf (now (t .entry)) (now (out .entry)) pos) (augmentSubtree (n .0)) ⌝ }
+{
+    let first_child = field::first_child(t, n);
+    cut_children(t, n);
+    match_siblings(t, out, pos, first_child, 256)
+}
+
+// To the root, at most so many steps; on return the parent is matched with the ancestor.
+fn augment_within(t: &mut Table, out: &mut [u8], pos: usize, n: Node, steps: usize) -> usize
+    ensures { λ r. ⌜ worldOf (now (t .exit)) (now (out .exit)) r ≡ run (worldOf (now (t .entry)) (now (out .entry)) pos) (augmentWithin steps (n .0)) ⌝ }
+{
+    if steps == 0 {
+        return pos;
+    }
+    let p = augment_subtree(t, out, pos, n);
+    let parent = field::parent(t, n);
+    if parent.0 == slot::number::NO_NODE {
+        return p;
+    }
+    let link = field::link(t, parent);
+    let ancestor = field::parent(t, parent);
+    let q = augment_within(t, out, p, ancestor, steps - 1);
+    pairing::temporary_match(t, out, q, parent, link, ancestor)
+}
+
+pub fn augment_whole_tree(t: &mut Table, out: &mut [u8], pos: usize, n: Node) -> usize
+    ensures { λ r. ⌜ worldOf (now (t .exit)) (now (out .exit)) r ≡ run (worldOf (now (t .entry)) (now (out .entry)) pos) (augmentWholeTree (n .0)) ⌝ }
+{
+    augment_within(t, out, pos, n, 256)
+}

@@ -1,0 +1,16 @@
+use Rattle.pairing.proofs.Steps.{match-step}
+use borrow.Author.Needs.{needs}
+use Rattle.pairing.proofs.temporary_match.Statement.{statement}
+use Rattle.pairing.proofs.temporary_match.Tie as tie
+
+pub temporary-match-spec : {M : Type 1} → statement M
+temporary-match-spec =
+    tie.close
+    (tie.spec
+    (λ c κs. search needs)
+    (λ c κs. search needs)
+    (λ c κs. search needs)
+    (λ c κs. search needs)
+    (λ c κs. search needs)
+    (λ c. search needs)
+    (λ c. match-step _ _ _ _ _ _ _ _ _ _ (c .before .before .before .before .before .before .before .before .before .before .before .emit .ensures) (c .before .before .before .before .before .before .before .emit2 .ensures) (c .before .before .before .settle .ensures) (c .before .mirrored .ensures) (c .settle2 .ensures)))
