@@ -23,6 +23,10 @@ conflictLink c = record { touch = c .«touch_1» .0; through = c .«vertex_1» .
 abbrev pub leafBelow : ℕ → Slot → Slot
 leafBelow parent s = shaped S.Grow parent (s .firstChild) none (s .link) s
 
+-- "free is root, matched its child"
+abbrev pub rootAbove : ℕ → Slot → Slot
+rootAbove child s = withFirstChild child (withState S.Grow s)
+
 -- the matched node as a − node: "A node hung into a tree takes the conflict's link, seen from itself."
 abbrev pub minusBelow : ℕ → ℕ → ℕ → Link → Slot → Slot
 minusBelow parent peer sibling l s = shaped S.Shrink parent peer sibling l s
@@ -33,7 +37,7 @@ growTree root l matched peer =
     say (speed root P.Grow)
     then say (speed matched P.Shrink)
     then say (speed peer P.Grow)
-    then change (alter root (λ s. withFirstChild matched (withState S.Grow s)))
+    then change (alter root (rootAbove matched))
     then change (alter matched (minusBelow root peer none l))
     then change (alter peer (leafBelow matched))
 
