@@ -2,6 +2,10 @@ pub mod Act
 pub mod Slots
 pub mod Walk
 pub mod Sound
+pub mod Chain
+pub mod FactsOfNodes
+pub mod FactsOfBlossoms
+pub mod Facts
 pub mod Trees
 pub mod Matching
 pub mod Blossom
