@@ -2,23 +2,21 @@
 use mathlib.Core.Path.{_≡_, refl, sym, ap, _∙_}
 use mathlib.Core.Bool.{Bool, true, false}
 use mathlib.Core.List.{List, [], _∷_, _++_, append-assoc}
-use mathlib.Core.Logic.{_↔_, _⊎_, inl, inr}
+use mathlib.Core.Logic.{_↔_, inl, inr}
 use Prim.Native.Nat.{ℕ, _+_, _^_, _≤_, _<_}
 use native.Mathlib.Omega.{arith}
 use lib.Dec.{ltb, eqb}
 use lib.ListN.{length, take, drop, length-append}
 use lib.Seq.{drop-drop, drop-at, length-take-le}
 use borrow.Author.Tests.{lt-ltb, le-ltb, eq-eqb, ne-eqb, ltb-true, ltb-false, eqb-true, eqb-false}
-use Rattle.lists.specs.Choice.{pick}
 use Rattle.record.specs.declared.kind.Kind.{Kind}
 use Rattle.record.specs.declared.kind.Kind.the-variants as K
-use Rattle.record.specs.declared.kind.Layout.{Layout}
 use Rattle.record.specs.declared.request.Request.{Request}
 use Rattle.record.specs.declared.request.Request.the-variants as Q
 use Rattle.record.specs.declared.request.Reading.{Reading}
 use Rattle.record.specs.declared.request.Reading.the-variants as R
 use Rattle.record.specs.Kinds.{numberOfKind, widths, sum, lengthOf, isRequest, layoutOf}
-use Rattle.record.specs.Fields.{number, encode, decode, AllFit, AllBytes}
+use Rattle.record.specs.Fields.{number, decode, AllFit, AllBytes}
 use Rattle.record.specs.Records.{recordBytes, requestKind, requestFields, requestBytes, RequestFits}
 use Rattle.record.specs.Reading.{lengthAt, layoutAt, bad, asked, read, Bad, cut-short, other-kind, other-length}
 use Rattle.record.proofs.Layouts.{layout-length, layout-number}

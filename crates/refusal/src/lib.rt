@@ -25,6 +25,12 @@ pub enum Answer {
     Refused(Refusal),
 }
 
+// What the checks of a request come to.
+pub enum Verdict {
+    Accepted,
+    Refused(Refusal),
+}
+
 pub fn number(refusal: Refusal) -> u16
     ensures { λ r. ⌜ r ≡ numberOf refusal ⌝ }
 {

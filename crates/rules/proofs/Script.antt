@@ -22,7 +22,7 @@ use Rattle.rules.specs.Blossom.{relinked, relisted, replaceChild, adopte
 use Rattle.rules.specs.Expansion.{stepsTo, matchChain, attach, attachDown, attachUp, ringOpened, disposed, expandBlossom, expansion}
 use Rattle.rules.specs.Conflict.{growTree, hangPair, blossomInTree, treesMeet, resolved, conflict, virtualConflict}
 use Rattle.rules.specs.Listing.{vertexOf, pairListed, levelsListed, ringListed, slotListed, slotsListed}
-use Rattle.rules.specs.Refusals.{defectAt, defectsBelow}
+use Rattle.rules.specs.Refusals.{defectAt, defectsBelow, conflictNodeChecks, virtualNodeChecks, expansionNodeChecks}
 use Rattle.rules.specs.Calls.{list, actOf, answered, verdict, verdictNumber}
 use Rattle.rules.specs.Concerns.{concernedOf}
 use Rattle.rules.specs.Run.{served, runFrom, runTape}
@@ -83,5 +83,5 @@ unfolding at put fresh withDefects withBlossoms insideWithin outerBlossomWithin 
     stepsTo matchChain attach attachDown attachUp ringOpened disposed expandBlossom expansion
     growTree hangPair blossomInTree treesMeet resolved conflict virtualConflict
     pairListed levelsListed ringListed slotListed slotsListed
-    defectAt defectsBelow list verdict answered concernedOf served runFrom runTape after
+    defectAt defectsBelow conflictNodeChecks virtualNodeChecks expansionNodeChecks list verdict answered concernedOf served runFrom runTape after
 all-rules = tt

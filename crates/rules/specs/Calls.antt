@@ -6,12 +6,14 @@ use Rattle.counts.specs.Making.{emptied}
 use Rattle.record.specs.declared.request.Request.{Request}
 use Rattle.record.specs.declared.request.Request.the-variants as Q
 use Rattle.record.specs.declared.answer.Record.{Record}
+use Rattle.refusal.specs.declared.Verdict.{Verdict}
+use Rattle.refusal.specs.declared.Verdict.the-variants.{Accepted, Refused}
 use Rattle.refusal.specs.Refusal.{numberOf}
 use Rattle.rules.specs.Act.{Act, Did, skip, change}
 use Rattle.rules.specs.Conflict.{conflict, virtualConflict}
 use Rattle.rules.specs.Expansion.{expansion}
 use Rattle.rules.specs.Listing.{listing}
-use Rattle.rules.specs.Refusals.{Verdict, accepted, refused, Check, firstOf, conflictChecks, virtualChecks, expansionChecks, resetChecks, listChecks}
+use Rattle.rules.specs.Refusals.{Check, firstOf, conflictChecks, virtualChecks, expansionChecks, resetChecks, listChecks}
 
 -- the listing leaves the table as it is
 unfoldable pub list : Act
@@ -37,13 +39,13 @@ verdict r t room = firstOf (checksOf r t room)
 
 -- "Each refusal returns its number and the table as given, loads nothing, writes nothing."
 abbrev pub actBy : Verdict → Request → Act
-actBy accepted r = actOf r
-actBy (refused n) r = skip
+actBy Accepted r = actOf r
+actBy (Refused n) r = skip
 
 -- 0, or the refusal's number
 abbrev pub verdictNumber : Verdict → ℕ
-verdictNumber accepted = 0
-verdictNumber (refused n) = numberOf n
+verdictNumber Accepted = 0
+verdictNumber (Refused n) = numberOf n
 
 -- what a request does on a table with so much room for what it writes
 unfoldable pub answered : Request → ℕ → Table → Did

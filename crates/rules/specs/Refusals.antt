@@ -4,6 +4,7 @@ use mathlib.Core.Bool.{Bool, not, _&&_, _||_}
 use mathlib.Core.List.{List, [], _∷_}
 use lib.Dec.{eqb, leb, ltb}
 use Rattle.lists.specs.Choice.{pick}
+use Rattle.slot.specs.Number.{noVertex}
 use Rattle.slot.specs.State.{isOuter, isPresent}
 use Rattle.slot.specs.Slot.{Slot}
 use Rattle.table.specs.Table.{Table, at}
@@ -11,10 +12,12 @@ use Rattle.nodes.specs.Nodes.{isBlossom, isDefect, present}
 use Rattle.nodes.specs.Climb.{inside}
 use Rattle.refusal.specs.declared.Refusal.{Refusal}
 use Rattle.refusal.specs.declared.Refusal.the-variants.{NotSound, NoSuchNode, NotOuter, SameNode, TouchOutside, NotGrowing, NoBlossomSlot, NoCommandRoom, NoListingRoom, NotExpandable}
+use Rattle.refusal.specs.declared.Verdict.{Verdict}
+use Rattle.refusal.specs.declared.Verdict.the-variants.{Accepted, Refused}
 use Rattle.record.specs.declared.request.Conflict.{Conflict}
 use Rattle.record.specs.declared.request.VirtualConflict.{VirtualConflict}
 use Rattle.record.specs.declared.request.Expansion.{Expansion}
-use Rattle.rules.specs.Slots.{isVertex, isGrow, isShrink}
+use Rattle.rules.specs.Slots.{isGrow, isShrink}
 use Rattle.rules.specs.Sound.{sound, isDefectInside}
 use Rattle.rules.specs.Blossom.{lacksBlossomSlot}
 use Rattle.nodes.specs.declared.place.Place.{Place}
@@ -30,14 +33,10 @@ infix 68 _when_
 abbrev pub _when_ : Refusal → Bool → Check
 r when b = record { applies = b; refusal = r }
 
-pub data Verdict : Type 0 where
-  accepted : Verdict
-  refused : Refusal → Verdict
-
 -- "The first that applies is given."
 abbrev pub firstOf : List Check → Verdict
-firstOf [] = accepted
-firstOf (c ∷ cs) = pick (c .applies) (refused (c .refusal)) (firstOf cs)
+firstOf [] = Accepted
+firstOf (c ∷ cs) = pick (c .applies) (Refused (c .refusal)) (firstOf cs)
 
 -- ---- the tests
 
@@ -48,6 +47,10 @@ lacksCommandRoom room = ltb room 4096
 -- 3: "a named node is ≥ 256 or an empty blossom slot"
 abbrev pub isNoNode : Table → ℕ → Bool
 isNoNode t n = leb 256 n || not (isPresent (seen t n .state))
+
+-- ".. or a vertex is none"
+abbrev pub isNoVertex : ℕ → Bool
+isNoVertex v = eqb v noVertex
 
 -- 4: "a named node is not outer"
 abbrev pub isNotOuter : Table → ℕ → Bool
@@ -90,40 +93,63 @@ isNotExpandable t n = not (isBlossom t n && isShrink (at t n .state))
 
 -- ---- the calls, each with its numbers in 01's order; each number is tried on both nodes before the next
 
+abbrev pub conflictNamesNoNode : Table → Conflict → Bool
+conflictNamesNoNode t c =
+    isNoNode t (c .«node_1» .0) || isNoNode t (c .«node_2» .0) || isNoVertex (c .«vertex_1» .0) || isNoVertex (c .«vertex_2» .0)
+
+abbrev pub conflictNotOuter : Table → Conflict → Bool
+conflictNotOuter t c = isNotOuter t (c .«node_1» .0) || isNotOuter t (c .«node_2» .0)
+
+abbrev pub conflictTouchesOutside : Table → Conflict → Bool
+conflictTouchesOutside t c = isOutside t (c .«node_1» .0) (c .«touch_1» .0) || isOutside t (c .«node_2» .0) (c .«touch_2» .0)
+
+abbrev pub conflictNotGrowing : Table → Conflict → Bool
+conflictNotGrowing t c =
+    isMinusNode t (c .«node_1» .0)
+    || isMinusNode t (c .«node_2» .0)
+    || not (isGrowing t (c .«node_1» .0) || isGrowing t (c .«node_2» .0))
+
+abbrev pub conflictLacksSlot : Table → Conflict → Bool
+conflictLacksSlot t c = makesBlossom t (c .«node_1» .0) (c .«node_2» .0) && lacksBlossomSlot t
+
+-- "3, 4, 5, 6, 7, 8"
+unfoldable pub conflictNodeChecks : Table → Conflict → List Check
+conflictNodeChecks t c =
+    NoSuchNode when conflictNamesNoNode t c
+    ∷ NotOuter when conflictNotOuter t c
+    ∷ SameNode when eqb (c .«node_1» .0) (c .«node_2» .0)
+    ∷ TouchOutside when conflictTouchesOutside t c
+    ∷ NotGrowing when conflictNotGrowing t c
+    ∷ NoBlossomSlot when conflictLacksSlot t c
+    ∷ []
+
 -- "Conflict order: 1, 9, 3, 4, 5, 6, 7, 8."
 abbrev pub conflictChecks : Table → ℕ → Conflict → List Check
-conflictChecks t room c =
-    let x = c .«node_1» .0 in
-    let y = c .«node_2» .0 in
-    NotSound when not (sound t)
-    ∷ NoCommandRoom when lacksCommandRoom room
-    ∷ NoSuchNode when (isNoNode t x || isNoNode t y || not (isVertex (c .«vertex_1» .0)) || not (isVertex (c .«vertex_2» .0)))
-    ∷ NotOuter when (isNotOuter t x || isNotOuter t y)
-    ∷ SameNode when eqb x y
-    ∷ TouchOutside when (isOutside t x (c .«touch_1» .0) || isOutside t y (c .«touch_2» .0))
-    ∷ NotGrowing when (isMinusNode t x || isMinusNode t y || not (isGrowing t x || isGrowing t y))
-    ∷ NoBlossomSlot when (makesBlossom t x y && lacksBlossomSlot t)
+conflictChecks t room c = NotSound when not (sound t) ∷ NoCommandRoom when lacksCommandRoom room ∷ conflictNodeChecks t c
+
+abbrev pub virtualNamesNoNode : Table → VirtualConflict → Bool
+virtualNamesNoNode t c = isNoNode t (c .node .0) || isNoVertex (c .vertex .0) || isNoVertex (c .«virtual_vertex» .0)
+
+-- "3, 4, 6, 7": of one node, "a node is −, or no named node is Grow" says that it is not Grow
+unfoldable pub virtualNodeChecks : Table → VirtualConflict → List Check
+virtualNodeChecks t c =
+    NoSuchNode when virtualNamesNoNode t c
+    ∷ NotOuter when isNotOuter t (c .node .0)
+    ∷ TouchOutside when isOutside t (c .node .0) (c .touch .0)
+    ∷ NotGrowing when not (isGrowing t (c .node .0))
     ∷ []
 
 -- "Virtual: 1, 9, 3, 4, 6, 7."
 abbrev pub virtualChecks : Table → ℕ → VirtualConflict → List Check
-virtualChecks t room c =
-    let x = c .node .0 in
-    NotSound when not (sound t)
-    ∷ NoCommandRoom when lacksCommandRoom room
-    ∷ NoSuchNode when (isNoNode t x || not (isVertex (c .vertex .0)) || not (isVertex (c .«virtual_vertex» .0)))
-    ∷ NotOuter when isNotOuter t x
-    ∷ TouchOutside when isOutside t x (c .touch .0)
-    ∷ NotGrowing when not (isGrowing t x)
-    ∷ []
+virtualChecks t room c = NotSound when not (sound t) ∷ NoCommandRoom when lacksCommandRoom room ∷ virtualNodeChecks t c
+
+-- "11"
+unfoldable pub expansionNodeChecks : Table → Expansion → List Check
+expansionNodeChecks t e = NotExpandable when isNotExpandable t (e .node .0) ∷ []
 
 -- "Expansion: 1, 9, 11."
 abbrev pub expansionChecks : Table → ℕ → Expansion → List Check
-expansionChecks t room e =
-    NotSound when not (sound t)
-    ∷ NoCommandRoom when lacksCommandRoom room
-    ∷ NotExpandable when isNotExpandable t (e .node .0)
-    ∷ []
+expansionChecks t room e = NotSound when not (sound t) ∷ NoCommandRoom when lacksCommandRoom room ∷ expansionNodeChecks t e
 
 -- "Reset: 1."
 abbrev pub resetChecks : Table → List Check

@@ -24,7 +24,7 @@ pub fn emit(out: &mut [u8], pos: usize, answer: Record) -> usize
     ensures { λ r. ⌜ outOf (now (out .exit)) r ≡ written (outOf (now (out .entry)) pos) (answerBytes answer) ⌝ }
 {
     match answer {
-        Record::Speed(node, speed) => placing::narrow_4(
+        Record::Speed(node, speed) => field_runs::narrow_4(
             out,
             pos,
             kind::SPEED_LENGTH,
@@ -32,22 +32,22 @@ pub fn emit(out: &mut [u8], pos: usize, answer: Record) -> usize
             node.0,
             speed_number(speed),
         ),
-        Record::Create(blossom) => placing::narrow_3(
+        Record::Create(blossom) => field_runs::narrow_3(
             out,
             pos,
             kind::CREATE_LENGTH,
             kind::CREATE,
             blossom.0,
         ),
-        Record::Expand(blossom) => placing::narrow_3(
+        Record::Expand(blossom) => field_runs::narrow_3(
             out,
             pos,
             kind::EXPAND_LENGTH,
             kind::EXPAND,
             blossom.0,
         ),
-        Record::End(number) => placing::narrow_3(out, pos, kind::END_LENGTH, kind::END, number),
-        Record::Pair(pair) => placing::narrow_4_wide_2(
+        Record::End(number) => field_runs::narrow_3(out, pos, kind::END_LENGTH, kind::END, number),
+        Record::Pair(pair) => field_runs::narrow_4_wide_2(
             out,
             pos,
             kind::PAIR_LENGTH,
@@ -57,7 +57,7 @@ pub fn emit(out: &mut [u8], pos: usize, answer: Record) -> usize
             pair.through.0,
             pair.peer_through.0,
         ),
-        Record::VirtualPair(virtual_pair) => placing::narrow_3_wide_2(
+        Record::VirtualPair(virtual_pair) => field_runs::narrow_3_wide_2(
             out,
             pos,
             kind::VIRTUAL_PAIR_LENGTH,
