@@ -1,0 +1,11 @@
+use borrow.Author.Needs.{needs}
+use Rattle.judging.proofs.conflict_not_outer.Statement.{statement}
+use Rattle.judging.proofs.conflict_not_outer.Tie as tie
+
+pub conflict-not-outer-spec : {M : Type 1} → statement M
+conflict-not-outer-spec =
+    tie.close (tie.spec
+    (λ c κs. search needs)
+    (λ c κs. search needs)
+    (λ c κs. search needs)
+    (λ c. (cc)))

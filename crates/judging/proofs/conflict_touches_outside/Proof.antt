@@ -1,0 +1,11 @@
+use borrow.Author.Needs.{needs}
+use Rattle.judging.proofs.conflict_touches_outside.Statement.{statement}
+use Rattle.judging.proofs.conflict_touches_outside.Tie as tie
+
+pub conflict-touches-outside-spec : {M : Type 1} → statement M
+conflict-touches-outside-spec =
+    tie.close (tie.spec
+    (λ c κs. search needs)
+    (λ c κs. search needs)
+    (λ c κs. search needs)
+    (λ c. (cc)))

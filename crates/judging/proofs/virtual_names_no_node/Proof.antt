@@ -1,0 +1,14 @@
+use borrow.Author.Needs.{needs}
+use Rattle.judging.proofs.virtual_names_no_node.Statement.{statement}
+use Rattle.judging.proofs.virtual_names_no_node.Tie as tie
+
+pub virtual-names-no-node-spec : {M : Type 1} → statement M
+virtual-names-no-node-spec =
+    tie.close
+    (tie.spec
+    (λ c κs. search needs)
+    (λ c κs. search needs)
+    (λ c κs. search needs)
+    (λ c κs. search needs)
+    (λ c κs. search needs)
+    (λ c. (cc)))
