@@ -145,6 +145,18 @@ ask K.Pair bs m r n e = never r n refl e
 ask K.VirtualPair bs m r n e = never r n refl e
 ask K.Other bs m r n e = never r n refl e
 
+-- a record that is read stands whole on the tape
+came-size : (l : List ℕ) (r : Request) (n : ℕ) → Way l → read l ≡ R.Request r n → n ≤ length l
+came-size l r n (none a) e = never r n (read-none l a) e
+came-size l r n (short a b) e = never r n (read-short l a b) e
+came-size l r n (other a b c) e = never r n (read-length l a b c) e
+came-size l r n (whole a b c) e =
+    let q = ask (layoutAt l .kind) (drop 4 l) (2 + lengthAt l) r n (read-whole l a b c ∙ e) in
+    rw (q .size) at b
+
+pub read-size : (l : List ℕ) (r : Request) (n : ℕ) → read l ≡ R.Request r n → n ≤ length l
+read-size l r n e = came-size l r n (way l) e
+
 -- ---- a request that was written is read back
 
 -- the layout of a request's kind

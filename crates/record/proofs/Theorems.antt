@@ -13,7 +13,7 @@ use Rattle.record.specs.Records.{requestBytes, RequestFits}
 use Rattle.record.specs.Reading.{bad, read, Bad}
 use Rattle.record.specs.Writing.{outOf, placed, writeAll, bytesOf}
 use Rattle.record.proofs.Codec.{decode-of-encode, encode-of-decode}
-use Rattle.record.proofs.Read.{read-back, read-so, read-fit, bad-exactly, placed-read}
+use Rattle.record.proofs.Read.{read-size, read-back, read-so, read-fit, bad-exactly, placed-read}
 use Rattle.record.proofs.Written.{placed-parts, writeAll-room}
 
 -- fields that were encoded are decoded, whatever their widths and whatever stands after them
@@ -35,6 +35,10 @@ read-request = read-so
 -- and its fields fit
 pub read-request-fits : (bs : List ℕ) (r : Request) (n : ℕ) → AllBytes bs → read bs ≡ R.Request r n → RequestFits r
 read-request-fits = read-fit
+
+-- and is no longer than the tape
+pub read-request-size : (bs : List ℕ) (r : Request) (n : ℕ) → read bs ≡ R.Request r n → n ≤ length bs
+read-request-size = read-size
 
 -- "Bad: cut short, other kind, other length.", and nothing else is
 pub read-bad-exactly : (bs : List ℕ) → read bs ≡ bad ↔ Bad bs

@@ -1,0 +1,64 @@
+-- A request served: its answer, and then its end record.
+use mathlib.Core.Path.{_≡_, refl, sym, ap, _∙_}
+use mathlib.Core.List.{List, [], _∷_, _++_}
+use Prim.Native.Nat.{ℕ, _-_}
+use lib.ListN.{length}
+use Rattle.table.specs.Table.{Table}
+use Rattle.table.specs.Words.{tableOf}
+use Rattle.refusal.specs.declared.Answer.{Answer}
+use Rattle.refusal.specs.declared.Answer.the-variants as A
+use Rattle.refusal.specs.declared.Verdict.{Verdict}
+use Rattle.refusal.specs.declared.Verdict.the-variants as W
+use Rattle.refusal.specs.Refusal.{answerNumber, answerWritten}
+use Rattle.record.specs.declared.request.Request.{Request}
+use Rattle.record.specs.declared.answer.Record.{Record}
+use Rattle.record.specs.declared.answer.Record.the-variants as R
+use Rattle.record.specs.Records.{answerBytes}
+use Rattle.record.specs.Writing.{Out, outOf, written, writeAll}
+use Rattle.rules.specs.Act.{Act, World, worldOf, run, skip}
+use Rattle.rules.specs.Calls.{actOf, actBy, verdict, verdictNumber, answered}
+use Rattle.rules.specs.Run.{served}
+use Rattle.rules.proofs.Runs.{world, writeAll-append, run-skip}
+use Rattle.serving.specs.Answered.{Outcome, Answered}
+use Rattle.running.specs.Tape.{posAfter}
+
+-- an act, and one record more
+abbrev pub ended : World → Act → ℕ → World
+ended w act n = record { table = act (w .table) .table; out = writeAll (w .out) (act (w .table) .said ++ R.End n ∷ []) }
+
+ended-run : (w : World) (act : Act) (n : ℕ) → ended w act n ≡ world (run w act .table) (written (run w act .out) (answerBytes (R.End n)))
+unfolding run writeAll
+ended-run w act n = rw writeAll-append
+
+served-by : (q : Request) (words bytes : List ℕ) (pos : ℕ) (v : Verdict) → verdict q (tableOf words) (length bytes - pos) ≡ v → served q (worldOf words bytes pos) ≡ ended (worldOf words bytes pos) (actBy v q) (verdictNumber v)
+unfolding served answered
+served-by q words bytes pos v e = rw e
+
+module _ (q : Request) (pos : ℕ) (words bytes words′ bytes′ : List ℕ) (a : Answer) (o : Out) where
+  by-verdict :
+      (v : Verdict)
+      → verdict q (tableOf words) (length bytes - pos) ≡ v
+      → Outcome v (actOf q) pos words bytes a words′ bytes′
+      → o ≡ written (outOf bytes′ (posAfter pos a)) (answerBytes (R.End (answerNumber a)))
+      → world (tableOf words′) o ≡ served q (worldOf words bytes pos)
+  by-verdict W.Accepted e h p =
+      let w : World = worldOf words bytes pos in
+      let d : a ≡ A.Done (answerWritten a) = h .0 in
+      let p′ : o ≡ written (outOf bytes′ (answerWritten a)) (answerBytes (R.End 0)) = p ∙ ap (λ (x : Answer). written (outOf bytes′ (posAfter pos x)) (answerBytes (R.End (answerNumber x)))) d in
+      let r : World = worldOf words′ bytes′ (answerWritten a) in
+      let g : world (tableOf words′) o ≡ world (r .table) (written (r .out) (answerBytes (R.End 0))) = ap (λ (x : Out). world (tableOf words′) x) p′ in
+      g
+      ∙ ap (λ (x : World). world (x .table) (written (x .out) (answerBytes (R.End 0)))) (h .1)
+      ∙ sym (ended-run w (actOf q) 0)
+      ∙ sym (served-by q words bytes pos W.Accepted e)
+  by-verdict (W.Refused n) e h p =
+      let w : World = worldOf words bytes pos in
+      let p′ : o ≡ written (outOf bytes pos) (answerBytes (R.End (answerNumber (A.Refused n)))) = p ∙ rw (h .0, h .2) in
+      rw (h .1, p′)
+      (sym (served-by q words bytes pos (W.Refused n) e ∙ ended-run w skip (verdictNumber (W.Refused n)) ∙ rw run-skip))
+
+  pub served-step :
+      Answered q pos words bytes a words′ bytes′
+      → o ≡ written (outOf bytes′ (posAfter pos a)) (answerBytes (R.End (answerNumber a)))
+      → world (tableOf words′) o ≡ served q (worldOf words bytes pos)
+  served-step h p = by-verdict (verdict q (tableOf words) (length bytes - pos)) refl h p

@@ -1,0 +1,152 @@
+// A run: a tape of records, handled one after another (01, "Records").
+use record::Conflict;
+use record::Expansion;
+use record::Reading;
+use record::Record;
+use record::Request;
+use record::VirtualConflict;
+use refusal::Answer;
+use table::Table;
+ghost use mathlib.Core.Path.{_≡_};
+ghost use Prim.Native.Nat.{_-_};
+ghost use lib.ListN.{length};
+ghost use Rattle.refusal.specs.Refusal.{answerNumber};
+ghost use Rattle.record.specs.declared.request.Request.the-variants as Q;
+ghost use Rattle.record.specs.declared.answer.Record.the-variants as R;
+ghost use Rattle.record.specs.Records.{answerBytes};
+ghost use Rattle.record.specs.Writing.{outOf, written};
+ghost use Rattle.rules.specs.Act.{worldOf};
+ghost use Rattle.rules.specs.Run.{served};
+ghost use Rattle.running.specs.Tape.{posAfter, Tape};
+
+// The end record: 0, or the refusal's number.
+fn end(out: &mut [u8], pos: usize, answer: Answer) -> usize
+    ensures { λ r. ⌜ outOf (now (out .exit)) r ≡ written (outOf (now (out .entry)) (posAfter pos answer)) (answerBytes (R.End (answerNumber answer))) ⌝ }
+{
+    match answer {
+        Answer::Done(after) => writing::emit(out, after, Record::End(0)),
+        Answer::Refused(refusal) => writing::emit(out, pos, Record::End(refusal::number(refusal))),
+    }
+}
+
+fn serve_conflict(t: &mut Table, out: &mut [u8], pos: usize, c: Conflict) -> usize
+    ensures { λ r. ⌜ worldOf (now (t .exit)) (now (out .exit)) r ≡ served (Q.Conflict c) (worldOf (now (t .entry)) (now (out .entry)) pos) ⌝ }
+{
+    let answer = serving::conflict(t, out, pos, c);
+    end(out, pos, answer)
+}
+
+fn serve_virtual_conflict(t: &mut Table, out: &mut [u8], pos: usize, c: VirtualConflict) -> usize
+    ensures { λ r. ⌜ worldOf (now (t .exit)) (now (out .exit)) r ≡ served (Q.VirtualConflict c) (worldOf (now (t .entry)) (now (out .entry)) pos) ⌝ }
+{
+    let answer = serving::virtual_conflict(t, out, pos, c);
+    end(out, pos, answer)
+}
+
+fn serve_expansion(t: &mut Table, out: &mut [u8], pos: usize, e: Expansion) -> usize
+    ensures { λ r. ⌜ worldOf (now (t .exit)) (now (out .exit)) r ≡ served (Q.Expansion e) (worldOf (now (t .entry)) (now (out .entry)) pos) ⌝ }
+{
+    let answer = serving::expand(t, out, pos, e);
+    end(out, pos, answer)
+}
+
+fn serve_reset(t: &mut Table, out: &mut [u8], pos: usize) -> usize
+    ensures { λ r. ⌜ worldOf (now (t .exit)) (now (out .exit)) r ≡ served Q.Reset (worldOf (now (t .entry)) (now (out .entry)) pos) ⌝ }
+{
+    let answer = serving::reset(t, out, pos);
+    end(out, pos, answer)
+}
+
+fn serve_list(t: &mut Table, out: &mut [u8], pos: usize) -> usize
+    ensures { λ r. ⌜ worldOf (now (t .exit)) (now (out .exit)) r ≡ served Q.List (worldOf (now (t .entry)) (now (out .entry)) pos) ⌝ }
+{
+    let answer = serving::list(t, out, pos);
+    end(out, pos, answer)
+}
+
+// One record: what the request answers, and its end.
+fn serve(t: &mut Table, out: &mut [u8], pos: usize, request: Request) -> usize
+    ensures { λ r. ⌜ worldOf (now (t .exit)) (now (out .exit)) r ≡ served request (worldOf (now (t .entry)) (now (out .entry)) pos) ⌝ }
+{
+    match request {
+        Request::Conflict(c) => serve_conflict(t, out, pos, c),
+        Request::VirtualConflict(c) => serve_virtual_conflict(t, out, pos, c),
+        Request::Expansion(e) => serve_expansion(t, out, pos, e),
+        Request::Reset => serve_reset(t, out, pos),
+        Request::List => serve_list(t, out, pos),
+    }
+}
+
+fn room(out: &[u8], pos: usize) -> usize
+    ensures { λ r. ⌜ r ≡ length (now (out .entry)) - pos ⌝ }
+{
+    if pos < out.len() {
+        return out.len() - pos;
+    }
+    0
+}
+
+// Handles the tape's records, at most so many, and returns its unread rest. The stop, the refusal, the records handled and the
+// bytes written go into the numbers lent.
+pub fn run<'a>(
+    t: &mut Table,
+    tape: &'a [u8],
+    out: &mut [u8],
+    allowance: u32,
+    stop: &mut u16,
+    refusal: &mut u16,
+    handled: &mut u32,
+    written: &mut usize,
+) -> &'a [u8]
+    ensures { λ r. ⌜ Tape allowance (now (t .entry)) (now (out .entry)) (now (tape .entry)) (now (stop .exit)) (now (refusal .exit)) (now (handled .exit)) (now (written .exit)) (now r) (now (t .exit)) (now (out .exit)) ⌝ }
+{
+    if !sound::is_sound(t) {
+        *stop = 0;
+        *refusal = 1;
+        *handled = 0;
+        *written = 0;
+        return tape;
+    }
+    let mut rest = tape;
+    let mut left = allowance;
+    let mut pos: usize = 0;
+    let mut count: u32 = 0;
+    loop {
+        if rest.len() == 0 {
+            *stop = 0;
+            *refusal = 0;
+            *handled = count;
+            *written = pos;
+            return rest;
+        }
+        if left == 0 {
+            *stop = 1;
+            *refusal = 0;
+            *handled = count;
+            *written = pos;
+            return rest;
+        }
+        if room(out, pos) < 4102 {
+            *stop = 2;
+            *refusal = 0;
+            *handled = count;
+            *written = pos;
+            return rest;
+        }
+        match reading::read_record(rest) {
+            Reading::Request(request, size) => {
+                pos = serve(t, out, pos, request);
+                rest = &rest[size..];
+                left -= 1;
+                count += 1;
+            }
+            Reading::Refused(bad) => {
+                *stop = 3;
+                *refusal = 0;
+                *handled = count;
+                *written = pos;
+                return rest;
+            }
+        }
+    }
+}

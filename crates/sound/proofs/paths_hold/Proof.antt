@@ -1,0 +1,29 @@
+use Rattle.sound.proofs.Steps.{given-fails, given-both, blossoms-pass, lists-fail, rings-fail, claims-fail, claims-judge}
+use Rattle.sound_walks.specs.Marks.{Judged}
+use mathlib.Core.Path.{ap, sym, _∙_}
+use borrow.Author.Tests.{not-true, not-false}
+use borrow.Author.Needs.{needs}
+use Rattle.sound.proofs.paths_hold.Statement.{statement}
+use Rattle.sound.proofs.paths_hold.Tie as tie
+
+pub paths-hold-spec : {M : Type 1} → statement M
+paths-hold-spec =
+    tie.close
+    (tie.spec
+    (λ c. search needs)
+    (λ c κs. search needs)
+    (λ c. lists-fail _ _ _ _ (given-fails _ _ _ _ _ _ (c .before .before .lists-hold .ensures) (not-true _ (c .if1 .taken))))
+    (λ c. search needs)
+    (λ c κs. search needs)
+    (λ c. lists-fail _ _ _ _ (ap (λ (w : Judged). w .ok) (sym (given-both _ _ _ _ _ _ (c .before .before .before .before .before .before .lists-hold .ensures) _ _ (not-false _ (c .before .before .before .before .if1 .left)) (c .before .before .lists-hold2 .ensures))) ∙ not-true _ (c .if2 .taken)))
+    (λ c. search needs)
+    (λ c κs. search needs)
+    (λ c. rings-fail _ _ _ _ _ _ (given-both _ _ _ _ _ _ (c .before .before .before .before .before .before .before .before .before .before .lists-hold .ensures) _ _ (not-false _ (c .before .before .before .before .before .before .before .before .if1 .left)) (c .before .before .before .before .before .before .lists-hold2 .ensures)) (not-false _ (c .before .before .before .before .if2 .left)) _ _ (blossoms-pass _ _ _ _ (c .before .before .rings-hold .ensures)) (not-true _ (c .if3 .taken)))
+    (λ c. search needs)
+    (λ c. search needs)
+    (λ c κs. search needs)
+    (λ c. claims-fail _ _ _ _ _ _ (given-both _ _ _ _ _ _ (c .before .before .before .before .before .before .before .before .before .before .before .before .before .before .lists-hold .ensures) _ _ (not-false _ (c .before .before .before .before .before .before .before .before .before .before .before .before .if1 .left)) (c .before .before .before .before .before .before .before .before .before .before .lists-hold2 .ensures)) (not-false _ (c .before .before .before .before .before .before .before .before .if2 .left)) _ _ (blossoms-pass _ _ _ _ (c .before .before .before .before .before .before .rings-hold .ensures)) (not-false _ (c .before .before .before .before .if3 .left)) _ (c .before .claims-hold .ensures) (not-true _ (c .if4 .taken)))
+    (λ c. search needs)
+    (λ c. search needs)
+    (λ c κs. search needs)
+    (λ c. claims-judge _ _ _ _ _ _ (given-both _ _ _ _ _ _ (c .before .before .before .before .before .before .before .before .before .before .before .before .before .before .before .before .before .lists-hold .ensures) _ _ (not-false _ (c .before .before .before .before .before .before .before .before .before .before .before .before .before .before .before .if1 .left)) (c .before .before .before .before .before .before .before .before .before .before .before .before .before .lists-hold2 .ensures)) (not-false _ (c .before .before .before .before .before .before .before .before .before .before .before .if2 .left)) _ _ (blossoms-pass _ _ _ _ (c .before .before .before .before .before .before .before .before .before .rings-hold .ensures)) (not-false _ (c .before .before .before .before .before .before .before .if3 .left)) _ (c .before .before .before .before .claims-hold .ensures) _ (not-false _ (c .before .before .before .if4 .left)) (c .claims-hold2 .ensures)))

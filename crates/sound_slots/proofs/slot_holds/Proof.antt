@@ -1,0 +1,28 @@
+use Rattle.sound_slots.proofs.Steps.{by-state}
+use mathlib.Core.Path.{refl}
+use borrow.Author.Needs.{needs}
+use Rattle.sound_slots.proofs.slot_holds.Statement.{statement}
+use Rattle.sound_slots.proofs.slot_holds.Tie as tie
+
+pub slot-holds-spec : {M : Type 1} → statement M
+slot-holds-spec =
+    tie.close
+    (tie.spec
+    (λ c κs. search needs)
+    (λ c. search needs)
+    (λ c κs. search needs)
+    (λ c. search needs)
+    (λ c κs. search needs)
+    (λ c. search needs)
+    (λ c κs. search needs)
+    (λ c. search needs)
+    (λ c κs. search needs)
+    (λ c. search needs)
+    (λ c κs. search needs)
+    (λ c. search needs)
+    (λ c. by-state _ _ _ _ _ (c .before .before .before .get .ensures) (c .before .enum-told .given .1) (c .is-bare .ensures))
+    (λ c. by-state _ _ _ _ _ (c .before .before .before .get .ensures) (c .before .enum-told2 .given .1) (c .inner-holds .ensures))
+    (λ c. by-state _ _ _ _ _ (c .before .before .before .get .ensures) (c .before .enum-told3 .given .1) (c .stay-holds .ensures))
+    (λ c. by-state _ _ _ _ _ (c .before .before .before .get .ensures) (c .before .enum-told4 .given .1) (c .grow-holds .ensures))
+    (λ c. by-state _ _ _ _ _ (c .before .before .before .get .ensures) (c .before .enum-told5 .given .1) (c .shrink-holds .ensures))
+    (λ c. by-state _ _ _ _ _ (c .before .before .get .ensures) (c .enum-told6 .given .1) refl))

@@ -1,0 +1,10 @@
+use borrow.Author.Needs.{needs}
+use Rattle.sound_slots.proofs.value.is_no_link.Statement.{statement}
+use Rattle.sound_slots.proofs.value.is_no_link.Tie as tie
+
+pub is-no-link-spec : {M : Type 1} → statement M
+is-no-link-spec = tie.close (tie.spec
+    (λ c κs. search needs)
+    (λ c κs. search needs)
+    (λ c κs. search needs)
+    (λ c. cc))

@@ -1,0 +1,30 @@
+use borrow.Author.Needs.{needs}
+use Rattle.sound_walks.specs.Marks.{claimed}
+use Rattle.sound_slots.proofs.Passes.{from-end, from-stop, from-more}
+use Rattle.sound_slots.specs.Pass.{allFrom}
+use Rattle.table.specs.Words.{tableOf}
+use borrow.Author.Tests.{not-true, not-false}
+use Prim.Native.Nat.{_-_}
+use mathlib.Core.Path.{_≡_, refl, sym, _∙_}
+use Rattle.sound_walks.proofs.claims.claims_hold.Statement.{statement}
+use Rattle.sound_walks.proofs.claims.claims_hold.Tie as tie
+
+abbrev Inv-loop : tie.InvT-loop
+Inv-loop t children members from to j₀ j = allFrom (claimed (tableOf t) children members) (to - j) j ≡ allFrom (claimed (tableOf t) children members) (to - j₀) j₀
+
+abbrev μ-loop : tie.MeasureT-loop
+μ-loop t children members from to j₀ j = to - j
+
+pub claims-hold-spec : {M : Type 1} → statement M
+claims-hold-spec =
+    tie.close
+    (tie.spec
+    Inv-loop
+    μ-loop
+    (λ c. refl)
+    (λ c κs. search needs)
+    (λ c. sym (from-stop _ _ _ (c .before .before .loop-test .taken) (sym (c .before .is-claimed .ensures) ∙ not-true _ (c .if1 .taken))) ∙ (c .before .before .before .loop .inv))
+    (λ c. search needs)
+    (λ c. search needs)
+    (λ c. from-more _ _ _ (c .before .before .loop-test .taken) (sym (c .before .is-claimed .ensures) ∙ not-false _ (c .if1 .left)) ∙ (c .before .before .before .loop .inv))
+    (λ c. sym (from-end _ _ _ (c .loop-test .left)) ∙ (c .before .loop .inv)))

@@ -1,0 +1,78 @@
+// Ways up (S7). A node's depth is the number of steps from it along parents to none, and 0 stands for one not known yet.
+use crate::marks;
+use slot::Node;
+use table::Table;
+ghost use mathlib.Core.Path.{_≡_};
+ghost use Prim.Native.Nat.{_-_};
+ghost use Rattle.table.specs.Words.{tableOf};
+ghost use Rattle.sound_walks.specs.Marks.{judgedOf, sweep};
+ghost use Rattle.sound_walks.specs.Depths.{measured, recorded, depthStep};
+
+// The depth of n, at most 257 steps to a node whose depth is known. 65,535 if there are more.
+fn measure(t: &Table, deep: &[u16], n: Node) -> u32
+    ensures { λ r. ⌜ r ≡ measured (tableOf (now (t .entry))) (now (deep .entry)) 257 (n .0) 0 ⌝ }
+{
+    let mut here = n;
+    let mut left: u32 = 257;
+    let mut count: u32 = 0;
+    loop {
+        if here.0 == slot::number::NO_NODE {
+            return count;
+        }
+        let known = marks::depth_of(deep, here);
+        if known != 0 {
+            return count + (known as u32);
+        }
+        if left == 0 {
+            return 65535;
+        }
+        here = nodes::field::parent(t, here);
+        left -= 1;
+        count += 1;
+    }
+}
+
+// The depths on the way up from n, which has this one, to a node whose depth is known.
+fn note_way(t: &Table, deep: &mut [u16], n: Node, depth: u16)
+    ensures { λ _. ⌜ now (deep .exit) ≡ recorded (tableOf (now (t .entry))) depth (n .0) (now (deep .entry)) ⌝ }
+{
+    let mut here = n;
+    let mut left = depth;
+    while 0 < left {
+        let known = marks::depth_of(deep, here);
+        if known != 0 {
+            return;
+        }
+        marks::note_depth(deep, here, left);
+        here = nodes::field::parent(t, here);
+        left -= 1;
+    }
+}
+
+fn depth_step(t: &Table, deep: &mut [u16], n: Node) -> bool
+    ensures { λ r. ⌜ judgedOf r (now (deep .exit)) ≡ depthStep (tableOf (now (t .entry))) (n .0) (now (deep .entry)) ⌝ }
+{
+    if !nodes::field::is_outer(t, n) {
+        return true;
+    }
+    let depth = measure(t, deep, n);
+    if 257 < depth {
+        return false;
+    }
+    note_way(t, deep, n, depth as u16);
+    true
+}
+
+// The ways up from the slots from one number to before another.
+pub fn depths_hold(t: &Table, deep: &mut [u16], from: u16, to: u16) -> bool
+    ensures { λ r. ⌜ judgedOf r (now (deep .exit)) ≡ sweep (depthStep (tableOf (now (t .entry)))) (to - from) from (now (deep .entry)) ⌝ }
+{
+    let mut i = from;
+    while i < to {
+        if !depth_step(t, deep, Node(i)) {
+            return false;
+        }
+        i += 1;
+    }
+    true
+}
