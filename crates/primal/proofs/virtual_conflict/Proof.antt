@@ -1,0 +1,10 @@
+use native.Mathlib.Nat.{sub-zero}
+use borrow.Author.Needs.{needs}
+use Rattle.primal.proofs.virtual_conflict.Statement.{statement}
+use Rattle.primal.proofs.virtual_conflict.Tie as tie
+
+pub virtual-conflict-spec : {M : Type 1} → statement M
+virtual-conflict-spec = tie.close (tie.spec
+    (λ c κs. search needs)
+    (λ c. search needs)
+    (λ c. rw sub-zero at (c .before .before .virtual-conflict .ensures)))
