@@ -1,5 +1,4 @@
 // Taking a - blossom apart. P is the ring node that holds the blossom's touch, C the one that holds its child's peer touch.
-pub mod attach;
 pub mod chain;
 
 use record::Record;
@@ -31,11 +30,11 @@ fn open_ring(
     if d % 2 == 0 {
         let after_c = nodes::field::sibling(t, c);
         let matched = chain::expand_blossom_match_chain(t, out, pos, p, after_c);
-        return attach::attach_down(t, out, matched, c, below, above, link, p);
+        return attaching::attach_down(t, out, matched, c, below, above, link, p);
     }
     let after_p = nodes::field::sibling(t, p);
     let matched = chain::expand_blossom_match_chain(t, out, pos, c, after_p);
-    attach::attach_up(t, out, matched, p, above, link, below, c)
+    attaching::attach_up(t, out, matched, p, above, link, below, c)
 }
 
 // P takes the blossom's place in its parent's list, C gets the child, and the slot is emptied.

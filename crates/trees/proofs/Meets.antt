@@ -20,8 +20,8 @@ use Rattle.rules.specs.Act.{choose}
 use Rattle.rules.specs.Slots.{up, isNone, isSome}
 use Rattle.rules.specs.Walk.{walk, isIn, firstShared}
 use Rattle.rules.specs.Trees.{rootWithin, root, sameTree, upward, meeting}
-use Rattle.trees.specs.Meeting.{depthWithin, depth, meetWithin, meetByDepths}
-use Rattle.trees.proofs.Steps.{meet-there, meet-first, meet-second, meet-both}
+use Rattle.trees.specs.Meeting.{depthWithin, depth, meetWithin, stepsTogether, meetByDepths}
+use Rattle.trees.proofs.Steps.{fewer, meet-there, meet-first, meet-second, meet-both}
 
 -- ---- lists of nodes
 
@@ -56,7 +56,7 @@ first-later : (x : ℕ) (xs ys : List ℕ) → (x ∈ ys → ⊥) → firstShare
 unfolding firstShared
 first-later x xs ys m = rw (in-no x ys m)
 
--- what is on no part of the first list may be left out of the second
+-- what is not on the first list may be left out of the second
 isIn-other : (x y : ℕ) (ys : List ℕ) → x ≢ y → isIn x (y ∷ ys) ≡ isIn x ys
 unfolding isIn
 isIn-other x y ys n = rw (ne-eqb x y n)
@@ -83,7 +83,7 @@ chain-from f a [] x h m = absurd m
 chain-from f a (c ∷ cs) x h (inl e) = (c ∷ cs, (e, λ n. h .1 (cc), h .2), omega arith)
 chain-from f a (c ∷ cs) x h (inr m) = let r = chain-from f (f c) cs x (h .2) m in (r .0, r .1, omega arith)
 
--- a node whose own way is longer is not on a way
+-- a node is not on a way that is shorter than its own: so no way comes to a node twice, and two that meet stay together
 longer : (f : ℕ → ℕ) (a b : ℕ) (us vs : List ℕ) → Chain f a us → Chain f b vs → length vs < length us → a ∈ vs → ⊥
 longer f a b us vs h k l m =
     let r = chain-from f b vs a k m in
@@ -105,9 +105,6 @@ by-order {R} d e f g h = go (decLt e d) (decLt d e)
 -- ---- the climb
 
 module _ (t : Table) (z : ℕ) where
-  fewer : (k : ℕ) → suc k - 1 ≡ k
-  fewer k = omega arith
-
   -- with so many steps left, the climb from a and b comes to the first node that is on both lists
   abbrev Meets : ℕ → Type 0
   Meets k =
@@ -118,12 +115,13 @@ module _ (t : Table) (z : ℕ) where
       → z ∈ vs
       → suc d ≡ length us + s
       → suc e ≡ length vs + s
-      → length us + length vs ≤ suc k
+      → length us ≤ suc k
+      → length vs ≤ suc k
       → meetWithin k d a e b t ≡ firstShared us vs
 
   module _ (k s d e u v : ℕ) (us vs : List ℕ) (hu : Chain (up t) (up t u) us) (nu : u ≢ none) (hv : Chain (up t) (up t v) vs) (nv : v ≢ none)
       (zu : z ∈ (u ∷ us)) (zv : z ∈ (v ∷ vs)) (du : suc d ≡ suc (length us) + s) (dv : suc e ≡ suc (length vs) + s)
-      (le : suc (length us) + suc (length vs) ≤ suc (suc k)) (again : Meets k) where
+      (lu : suc (length us) ≤ suc (suc k)) (lv : suc (length vs) ≤ suc (suc k)) (again : Meets k) where
     one-node : u ≡ v → meetWithin (suc k) d u e v t ≡ firstShared (u ∷ us) (v ∷ vs)
     one-node q = sym (meet-there t d u e v (suc k) q) ∙ sym (first-here u us (v ∷ vs) (inl q))
 
@@ -131,14 +129,14 @@ module _ (t : Table) (z : ℕ) where
     first-deeper q l =
         let off : u ∈ (v ∷ vs) → ⊥ = longer (up t) u v (u ∷ us) (v ∷ vs) (refl, nu, hu) (refl, nv, hv) (omega arith) in
         sym (rw (fewer k) at (meet-first t d u e v (suc k) (up t u) (λ w. omega arith) q l refl))
-        ∙ again s (d - 1) e (up t u) v us (v ∷ vs) hu (refl, nv, hv) (after z u us (v ∷ vs) zu zv off) zv (omega arith) dv (omega arith)
+        ∙ again s (d - 1) e (up t u) v us (v ∷ vs) hu (refl, nv, hv) (after z u us (v ∷ vs) zu zv off) zv (omega arith) dv (omega arith) (omega arith)
         ∙ sym (first-later u us (v ∷ vs) off)
 
     second-deeper : u ≢ v → d < e → meetWithin (suc k) d u e v t ≡ firstShared (u ∷ us) (v ∷ vs)
     second-deeper q l =
         let off : v ∈ (u ∷ us) → ⊥ = longer (up t) v u (v ∷ vs) (u ∷ us) (refl, nv, hv) (refl, nu, hu) (omega arith) in
         sym (rw (fewer k) at (meet-second t d u e v (suc k) (up t v) (λ w. omega arith) q (omega arith) l refl))
-        ∙ again s d (e - 1) u (up t v) (u ∷ us) vs (refl, nu, hu) hv zu (after z v vs (u ∷ us) zv zu off) du (omega arith) (omega arith)
+        ∙ again s d (e - 1) u (up t v) (u ∷ us) vs (refl, nu, hu) hv zu (after z v vs (u ∷ us) zv zu off) du (omega arith) (omega arith) (omega arith)
         ∙ sym (first-without (u ∷ us) vs v off)
 
     level : u ≢ v → d ≡ e → meetWithin (suc k) d u e v t ≡ firstShared (u ∷ us) (v ∷ vs)
@@ -147,25 +145,35 @@ module _ (t : Table) (z : ℕ) where
         let off-v : v ∈ us → ⊥ = longer (up t) v (up t u) (v ∷ vs) us (refl, nv, hv) hu (omega arith) in
         let zu′ : z ∈ us = after z u us (v ∷ vs) zu zv off-u in
         sym (rw (fewer k) at (meet-both t d u e v (suc k) (up t u) (up t v) (λ w. omega arith) q (omega arith) (omega arith) refl refl))
-        ∙ again (suc s) d e (up t u) (up t v) us vs hu hv zu′ (after z v vs us zv zu′ off-v) (omega arith) (omega arith) (omega arith)
+        ∙ again (suc s) d e (up t u) (up t v) us vs hu hv zu′ (after z v vs us zv zu′ off-v) (omega arith) (omega arith) (omega arith) (omega arith)
         ∙ sym (first-without us vs v off-v)
         ∙ sym (first-later u us (v ∷ vs) off-u)
 
     meets-step : meetWithin (suc k) d u e v t ≡ firstShared (u ∷ us) (v ∷ vs)
     meets-step = elim (eqCase u v) [ inl q ↦ one-node q | inr q ↦ by-order d e (first-deeper q) (second-deeper q) (level q) ]
 
+  -- with no step left both are at the one node that each list still has
+  last-node : (d e a b u v : ℕ) → a ≡ u → z ∈ (u ∷ []) → z ∈ (v ∷ []) → meetWithin 0 d a e b t ≡ firstShared (u ∷ []) (v ∷ [])
+  unfolding meetWithin
+  last-node d e a b u v h (inl p) (inl q) = h ∙ sym (first-here u [] (v ∷ []) (inl (sym p ∙ q)))
+  last-node d e a b u v h (inl p) (inr q) = absurd q
+  last-node d e a b u v h (inr p) q = absurd p
+
   meets : (k : ℕ) → Meets k
-  meets zero s d e a b [] vs h g zu zv du dv le = absurd zu
-  meets zero s d e a b (u ∷ us) [] h g zu zv du dv le = absurd zv
-  meets zero s d e a b (u ∷ us) (v ∷ vs) h g zu zv du dv le = absurd (omega arith)
-  meets (suc k) s d e a b [] vs h g zu zv du dv le = absurd zu
-  meets (suc k) s d e a b (u ∷ us) [] h g zu zv du dv le = absurd zv
-  meets (suc k) s d e a b (u ∷ us) (v ∷ vs) h g zu zv du dv le =
+  meets zero s d e a b [] vs h g zu zv du dv lu lv = absurd zu
+  meets zero s d e a b (u ∷ us) [] h g zu zv du dv lu lv = absurd zv
+  meets zero s d e a b (u ∷ []) (v ∷ []) h g zu zv du dv lu lv = last-node d e a b u v (h .0) zu zv
+  meets zero s d e a b (u ∷ []) (v ∷ y ∷ ys) h g zu zv du dv lu lv = absurd (omega arith)
+  meets zero s d e a b (u ∷ x ∷ xs) (v ∷ vs) h g zu zv du dv lu lv = absurd (omega arith)
+  meets (suc k) s d e a b [] vs h g zu zv du dv lu lv = absurd zu
+  meets (suc k) s d e a b (u ∷ us) [] h g zu zv du dv lu lv = absurd zv
+  meets (suc k) s d e a b (u ∷ us) (v ∷ vs) h g zu zv du dv lu lv =
       rw (h .0, g .0)
-      (meets-step k s d e u v us vs (h .2) (λ w. h .1 (h .0 ∙ w)) (g .2) (λ w. g .1 (g .0 ∙ w)) zu zv du dv le (meets k))
+      (meets-step k s d e u v us vs (h .2) (λ w. h .1 (h .0 ∙ w)) (g .2) (λ w. g .1 (g .0 ∙ w)) zu zv du dv lu lv (meets k))
 
 -- ---- the way up that ends at a root
 
+-- the walk from n up is a way that ends at n's root, and n's depth counts its steps
 module _ (t : Table) where
   pub record Way (k n : ℕ) : Type 0 where
     pub chain : Chain (up t) n (walk (suc k) (up t) n)
@@ -176,7 +184,13 @@ module _ (t : Table) where
   way : (k n : ℕ) → n ≢ none → rootWithin k t n ≢ none → Way k n
   unfolding walk rootWithin depthWithin choose
   way zero n h r = elim (eqCase (up t n) none) [
-    | inl e ↦ record { chain = rw (ne-eqb n none h) (refl, h, e); end = rw (ne-eqb n none h, eq-eqb (up t n) none e) (inl refl); long = rw (ne-eqb n none h); bound = omega arith }
+    | inl e ↦
+        record {
+          chain = rw (ne-eqb n none h) (refl, h, e);
+          end = rw (ne-eqb n none h, eq-eqb (up t n) none e) (inl refl);
+          long = rw (ne-eqb n none h);
+          bound = omega arith;
+        }
     | inr q ↦ absurd (r (rw (ne-eqb (up t n) none q)))
   ]
   way (suc k) n h r = elim (eqCase (up t n) none) [
@@ -210,7 +224,11 @@ module _ (t : Table) where
       let q : root t b ≢ none = λ w. r (e ∙ w) in
       let x : Way 256 a = way 256 a (rooted a f r) r in
       let y : Way 256 b = way 256 b (rooted b f q) q in
-      meets t (root t a) 513 0 (depth t a) (depth t b) a b (upward t a) (upward t b) (x .chain) (y .chain) (x .end) (rw e (y .end)) (omega (arith, x .long)) (omega (arith, y .long)) (omega (arith, x .long, y .long, x .bound, y .bound))
+      meets t (root t a) stepsTogether 0 (depth t a) (depth t b) a b (upward t a) (upward t b) (x .chain) (y .chain) (x .end) (rw e (y .end))
+      (omega (arith, x .long))
+      (omega (arith, y .long))
+      (omega (arith, x .long, x .bound))
+      (omega (arith, y .long, y .bound))
 
 -- 01: "The meeting node is the first node that both upward paths share." The code's way to it, where there is one.
 pub meet-by-depths : (t : Table) (a b : ℕ) → Full t → sameTree t a b ≡ true → meetByDepths t a b ≡ meeting t a b

@@ -10,9 +10,9 @@ use Rattle.table.specs.Table.{Table}
 use Rattle.rules.specs.Act.{choose}
 use Rattle.rules.specs.Slots.{up}
 use Rattle.rules.specs.Trees.{rootWithin, sameTree, root}
-use Rattle.trees.specs.Meeting.{depthWithin, depth, meetWithin, meetByDepths}
+use Rattle.trees.specs.Meeting.{depthWithin, depth, meetWithin, stepsTogether, meetByDepths}
 
-fewer : (k : ℕ) → suc k - 1 ≡ k
+pub fewer : (k : ℕ) → suc k - 1 ≡ k
 fewer k = omega arith
 
 module _ (t : Table) (n p : ℕ) (e : p ≡ up t n) where
@@ -109,7 +109,7 @@ pub meet-start :
     (t : Table) (d a e b m : ℕ)
     → d ≡ depth t a
     → e ≡ depth t b
-    → m ≡ meetWithin 513 d a e b t
+    → m ≡ meetWithin stepsTogether d a e b t
     → m ≡ meetByDepths t a b
 unfolding meetByDepths
 meet-start t d a e b m f g h = cc

@@ -1,4 +1,4 @@
--- Where two ways up meet, found by their depths: no list is made, and no node is asked for on the other way.
+-- Where two ways up meet, found by their depths, with no list of nodes to keep.
 use Prim.Native.Nat.{ℕ, zero, suc, _+_, _-_}
 use lib.Dec.{eqb, ltb}
 use Rattle.table.specs.Table.{Table}
@@ -24,6 +24,9 @@ meetWithin (suc k) d a e b t =
     (λ u. meetWithin k d (up u a) e (up u b) u)))
     t
 
--- two ways of at most 256 steps each
+-- two ways of at most 256 steps each, climbed together
+abbrev pub stepsTogether : ℕ
+stepsTogether = 256
+
 unfoldable pub meetByDepths : Table → ℕ → ℕ → ℕ
-meetByDepths t a b = meetWithin 513 (depth t a) a (depth t b) b t
+meetByDepths t a b = meetWithin stepsTogether (depth t a) a (depth t b) b t

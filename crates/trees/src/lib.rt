@@ -65,15 +65,15 @@ pub fn find_lowest_common_ancestor(t: &Table, a: Node, b: Node) -> Node
     let mut depth_b = depth_of(t, b);
     let mut on_a = a;
     let mut on_b = b;
-    let mut left: usize = 513;
+    let mut steps_left: usize = 256;
     let meeting = loop {
-        if left == 0 {
+        if steps_left == 0 {
             break on_a;
         }
         if on_a.0 == on_b.0 {
             break on_a;
         }
-        left -= 1;
+        steps_left -= 1;
         if depth_b < depth_a {
             on_a = nodes::field::parent(t, on_a);
             depth_a -= 1;

@@ -7,10 +7,10 @@ use Rattle.trees.proofs.find_lowest_common_ancestor.Statement.{statemen
 use Rattle.trees.proofs.find_lowest_common_ancestor.Tie as tie
 
 abbrev Inv-loop : tie.InvT-loop
-Inv-loop t depth-a₀ depth-b₀ on-a₀ on-b₀ left₀ depth-a depth-b on-a on-b left = meetWithin left depth-a (on-a .0) depth-b (on-b .0) (tableOf t) ≡ meetWithin left₀ depth-a₀ (on-a₀ .0) depth-b₀ (on-b₀ .0) (tableOf t)
+Inv-loop t depth-a₀ depth-b₀ on-a₀ on-b₀ steps-left₀ depth-a depth-b on-a on-b steps-left = meetWithin steps-left depth-a (on-a .0) depth-b (on-b .0) (tableOf t) ≡ meetWithin steps-left₀ depth-a₀ (on-a₀ .0) depth-b₀ (on-b₀ .0) (tableOf t)
 
 abbrev μ-loop : tie.MeasureT-loop
-μ-loop t depth-a₀ depth-b₀ on-a₀ on-b₀ left₀ depth-a depth-b on-a on-b left = left
+μ-loop t depth-a₀ depth-b₀ on-a₀ on-b₀ steps-left₀ depth-a depth-b on-a on-b steps-left = steps-left
 
 pub find-lowest-common-ancestor-spec : {M : Type 1} → statement M
 find-lowest-common-ancestor-spec =
