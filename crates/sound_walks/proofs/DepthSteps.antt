@@ -64,21 +64,26 @@ module _ (t : Table) (n : ℕ) (l : List ℕ) where
     recorded-more zero p m h q r s = absurd (omega arith)
     recorded-more (suc d) p m h q r s = rw (pred d, ← e, eq-eqb v 0 q, s, r)
 
-module _ (t : Table) (n : ℕ) (l : List ℕ) (b : Bool) (e : b ≡ outer t n) where
-  pub depth-none : b ≡ false → judgedOf true l ≡ depthStep t n l
+module _ (t : Table) (n : ℕ) (l : List ℕ) (p : ℕ) (v : p ≡ up t n) where
+  pub depth-top : p ≡ none → judgedOf true l ≡ depthStep t n l
   unfolding depthStep
-  depth-none h = let q : outer t n ≡ false = sym e ∙ h in rw q
+  depth-top h = rw (← v, eq-eqb p none h)
 
-  pub depth-deep : (d : ℕ) → b ≡ true → d ≡ measured t l 257 n 0 → 257 < d → judgedOf false l ≡ depthStep t n l
-  unfolding depthStep
-  depth-deep d h r z = let q : outer t n ≡ true = sym e ∙ h in rw (q, ← r, lt-leb d 257 z)
+  module _ (f : p ≡ none → ⊥) (b : Bool) (e : b ≡ outer t n) where
+    pub depth-none : b ≡ false → judgedOf true l ≡ depthStep t n l
+    unfolding depthStep
+    depth-none h = let q : outer t n ≡ false = sym e ∙ h in rw (← v, ne-eqb p none f, q)
 
-  pub depth-fine :
-      (d : ℕ) (m : List ℕ)
-      → b ≡ true
-      → d ≡ measured t l 257 n 0
-      → d ≤ 257
-      → m ≡ recorded t d n l
-      → judgedOf true m ≡ depthStep t n l
-  unfolding depthStep
-  depth-fine d m h r z s = let q : outer t n ≡ true = sym e ∙ h in rw (q, ← r, le-leb d 257 z, s)
+    pub depth-deep : (d : ℕ) → b ≡ true → d ≡ measured t l 257 n 0 → 257 < d → judgedOf false l ≡ depthStep t n l
+    unfolding depthStep
+    depth-deep d h r z = let q : outer t n ≡ true = sym e ∙ h in rw (← v, ne-eqb p none f, q, ← r, lt-leb d 257 z)
+
+    pub depth-fine :
+        (d : ℕ) (m : List ℕ)
+        → b ≡ true
+        → d ≡ measured t l 257 n 0
+        → d ≤ 257
+        → m ≡ recorded t d n l
+        → judgedOf true m ≡ depthStep t n l
+    unfolding depthStep
+    depth-fine d m h r z s = let q : outer t n ≡ true = sym e ∙ h in rw (← v, ne-eqb p none f, q, ← r, le-leb d 257 z, s)

@@ -1,7 +1,7 @@
 -- Walks, passes and claims, step by step as the code takes them: what was found so far, in the code's order, and what is left.
 use mathlib.Core.Path.{_≡_, refl, sym, ap, _∙_}
 use mathlib.Core.List.{List}
-use mathlib.Core.Bool.{Bool, true, false}
+use mathlib.Core.Bool.{Bool, true, false, and-false}
 use Prim.Native.Nat.{ℕ, zero, suc, _+_, _-_, _≤_, _<_}
 use native.Mathlib.Numerals.{add-one}
 use native.Mathlib.Omega.{arith}
@@ -9,8 +9,12 @@ use lib.ListN.{length, getD, set, List·getD-eq-default}
 use borrow.Author.Tests.{eq-eqb, ne-eqb}
 use Rattle.lists.specs.Choice.{pick}
 use Rattle.slot.specs.declared.state.State.{State}
+use Rattle.slot.specs.declared.state.State.the-variants as S
 use Rattle.slot.specs.Number.{none}
+use Rattle.slot.specs.Slot.{emptySlot}
 use Rattle.table.specs.Table.{Table, at}
+use Rattle.table.specs.Words.{tableOf}
+use Rattle.table.proofs.WordsOfSlots.{at-past}
 use Rattle.nodes.specs.Nodes.{outer}
 use Rattle.rules.specs.Slots.{up, next}
 use Rattle.rules.specs.Sound.{isOuterChild, nextInRing}
@@ -55,6 +59,15 @@ module _ (along : ℕ → ℕ) (mine : ℕ → Bool) (n c : ℕ) (l : List ℕ) 
       rw (f, p, r, ne-eqb n none h, u)
 
 -- ---- a slot's own walk
+
+pub list-bare : (t : Table) (i : ℕ) (l : List ℕ) (a : ℕ) → a ≡ at t i .firstChild → a ≡ none → judgedOf true l ≡ listStep t i l
+unfolding listStep
+list-bare t i l a p h =
+    either (outer t i)
+  where
+    either : (b : Bool) → judgedOf true l ≡ pick b (listEnded (marking 256 (next t) (isOuterChild t i) (at t i .firstChild) 0 l)) (judgedOf true l)
+    either true = ap (λ (w : Walked). listEnded w) (marking-end (next t) (isOuterChild t i) a 0 l 256 h) ∙ rw p
+    either false = refl
 
 module _ (t : Table) (i : ℕ) (l : List ℕ) (b : Bool) where
   pub list-none : b ≡ outer t i → b ≡ false → judgedOf true l ≡ listStep t i l
@@ -120,6 +133,22 @@ module _ (t : Table) (l : List ℕ) (j p : ℕ) (b : Bool) (e : p ≡ up t j) wh
   pub ringed-here : (r : Bool) → b ≡ hasRing t p → b ≡ true → r ≡ marked l j → r ≡ ringed t l j
   unfolding ringed
   ringed-here r q h m = let u : hasRing t p ≡ true = sym q ∙ h in rw (← e, u) m
+
+-- past the table nothing owns
+pub claimed-loose : (ws : List ℕ) (l m : List ℕ) (j p : ℕ) → p ≡ up (tableOf ws) j → p ≡ none → true ≡ claimed (tableOf ws) l m j
+unfolding claimed listed ringed
+claimed-loose ws l m j p e h = go (at (tableOf ws) j .state)
+  where
+    nothing : at (tableOf ws) (up (tableOf ws) j) ≡ emptySlot
+    nothing = ap (at (tableOf ws)) (sym e ∙ h) ∙ sym (at-past ws none (omega arith))
+
+    go : (x : State) → true ≡ claimOf x (tableOf ws) l m j
+    go S.Empty = refl
+    go S.Inner = rw (nothing, and-false)
+    go S.Stay = rw nothing
+    go S.Grow = rw nothing
+    go S.Shrink = rw nothing
+    go S.Damaged = refl
 
 pub claimed-by :
     (t : Table) (l m : List ℕ) (j : ℕ) (s x : State) (r : Bool)

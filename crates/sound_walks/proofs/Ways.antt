@@ -19,7 +19,7 @@ use Rattle.rules.specs.Sound.{_⇒_}
 use Rattle.sound_slots.specs.Pass.{allFrom}
 use Rattle.sound_walks.specs.Marks.{Judged, judgedOf, sweep}
 use Rattle.sound_walks.specs.Depths.{measured, recorded, depthStep}
-use Rattle.sound_walks.proofs.Truth.{lie, bool-ext, by-cases, and-left, and-right, and-both, or-left, or-right}
+use Rattle.sound_walks.proofs.Truth.{lie, bool-ext, by-cases, and-left, and-right, and-both, or-left, or-right, if-then}
 use Rattle.sound_walks.proofs.Sweeps.{sweep-zero, sweep-on, sweep-off}
 use Rattle.sound_walks.proofs.Paths.{unseen}
 
@@ -187,25 +187,39 @@ module _ (t : Table) where
 
   pub depth-skips : (n : ℕ) (l : List ℕ) → outer t n ≡ false → depthStep t n l ≡ judgedOf true l
   unfolding depthStep
-  depth-skips n l o = rw o
+  depth-skips n l o = by-cases (isNone (up t n)) (λ u. rw u) (λ u. rw (u, o))
+
+  top-reaches : (n : ℕ) → isNone (up t n) ≡ true → reachesTop n ≡ true
+  top-reaches n u =
+      if-then (outer t n) (ends 257 (up t) n)
+      (λ o.
+      by-cases (isNone n)
+      (λ e. comes-ends 0 257 n (omega arith) (comes-here n e))
+      (λ e. comes-ends 1 257 n (omega arith) (comes-from 0 n e (comes-here (up t n) u))))
 
   depth-judges : (n : ℕ) (l : List ℕ) → Known l → depthStep t n l .ok ≡ reachesTop n
   unfolding depthStep
   depth-judges n l k =
+      by-cases (isNone (up t n))
+      (λ u. rw (u, top-reaches n u))
+      (λ u.
       by-cases (outer t n)
       (λ o. by-cases (leb (measured t l 257 n 0) 257)
-      (λ e. rw (o, ← depth-ends l k n, e))
-      (λ e. rw (o, ← depth-ends l k n, e)))
-      (λ o. rw o)
+      (λ e. rw (u, o, ← depth-ends l k n, e))
+      (λ e. rw (u, o, ← depth-ends l k n, e)))
+      (λ o. rw (u, o)))
 
   depth-keeps : (n : ℕ) (l : List ℕ) → Known l → depthStep t n l .ok ≡ true → Known (depthStep t n l .seen)
   unfolding depthStep
   depth-keeps n l k h =
+      by-cases (isNone (up t n))
+      (λ u. rw u k)
+      (λ u.
       by-cases (outer t n)
       (λ o. by-cases (leb (measured t l 257 n 0) 257)
-      (λ e. rw (o, e) (depth-known l k n e))
-      (λ e. let h′ : false ≡ true = rw (o, e) at h in lie h′))
-      (λ o. rw o k)
+      (λ e. rw (u, o, e) (depth-known l k n e))
+      (λ e. let h′ : false ≡ true = rw (u, o, e) at h in lie h′))
+      (λ o. rw (u, o) k))
 
   pub ways-right : sweep (depthStep t) 256 0 unseen .ok ≡ allFrom reachesTop 256 0
   ways-right = judged-all reachesTop (depthStep t) Known depth-judges depth-keeps 256 0 unseen known-start

@@ -23,8 +23,10 @@ unfoldable pub recorded : Table → ℕ → ℕ → List ℕ → List ℕ
 recorded t zero n l = l
 recorded t (suc d) n l = let rest = recorded t d (up t n) (set l n (suc d)) in pick (eqb (getD l n 0) 0) rest l
 
+-- a node without a parent is at the top
 unfoldable pub depthStep : Table → ℕ → List ℕ → Judged
 depthStep t n l =
-    pick (outer t n)
+    pick (isNone (up t n)) (judgedOf true l)
+    (pick (outer t n)
     (pick (leb (measured t l 257 n 0) 257) (judgedOf true (recorded t (measured t l 257 n 0) n l)) (judgedOf false l))
-    (judgedOf true l)
+    (judgedOf true l))

@@ -45,10 +45,13 @@ fn walk_list(t: &Table, seen: &mut [u8], i: Node, from: Node) -> u16
 fn list_step(t: &Table, seen: &mut [u8], i: Node) -> bool
     ensures { λ r. ⌜ judgedOf r (now (seen .exit)) ≡ listStep (tableOf (now (t .entry))) (i .0) (now (seen .entry)) ⌝ }
 {
+    let child = nodes::field::first_child(t, i);
+    if child.0 == slot::number::NO_NODE {
+        return true;
+    }
     if !nodes::field::is_outer(t, i) {
         return true;
     }
-    let child = nodes::field::first_child(t, i);
     let count = walk_list(t, seen, i, child);
     count != slot::number::NO_NODE
 }

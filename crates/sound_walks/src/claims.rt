@@ -35,6 +35,10 @@ fn is_ringed(t: &Table, members: &[u8], j: Node) -> bool
 fn is_claimed<'a>(t: &Table, children: &'a [u8], members: &'a [u8], j: Node) -> bool
     ensures { λ r. ⌜ r ≡ claimed (tableOf (now (t .entry))) (now (children .entry)) (now (members .entry)) (j .0) ⌝ }
 {
+    let above = nodes::field::parent(t, j);
+    if above.0 == slot::number::NO_NODE {
+        return true;
+    }
     let state = nodes::field::state(t, j);
     match state {
         State::Empty => true,

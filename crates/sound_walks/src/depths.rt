@@ -49,9 +49,14 @@ fn note_way(t: &Table, deep: &mut [u16], n: Node, depth: u16)
     }
 }
 
+// A node without a parent is at the top, and its depth need not be remembered.
 fn depth_step(t: &Table, deep: &mut [u16], n: Node) -> bool
     ensures { λ r. ⌜ judgedOf r (now (deep .exit)) ≡ depthStep (tableOf (now (t .entry))) (n .0) (now (deep .entry)) ⌝ }
 {
+    let above = nodes::field::parent(t, n);
+    if above.0 == slot::number::NO_NODE {
+        return true;
+    }
     if !nodes::field::is_outer(t, n) {
         return true;
     }

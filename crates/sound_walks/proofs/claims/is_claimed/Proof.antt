@@ -1,4 +1,4 @@
-use Rattle.sound_walks.proofs.Steps.{claimed-by}
+use Rattle.sound_walks.proofs.Steps.{claimed-loose, claimed-by}
 use mathlib.Core.Path.{refl}
 use borrow.Author.Needs.{needs}
 use Rattle.sound_walks.proofs.claims.is_claimed.Statement.{statement}
@@ -8,6 +8,8 @@ pub is-claimed-spec : {M : Type 1} → statement M
 is-claimed-spec =
     tie.close
     (tie.spec
+    (λ c κs. search needs)
+    (λ c. claimed-loose (c .before .before .before .before .before .args .t .now) _ _ _ _ (c .before .before .parent .ensures) (c .if1 .taken))
     (λ c κs. search needs)
     (λ c. search needs)
     (λ c. search needs)
