@@ -4,7 +4,7 @@ use mathlib.Core.Path.{_≡_, refl, ap, ap₂, sym, _∙_}
 use mathlib.Core.Logic.{_≢_, _⊎_, inl, inr}
 use mathlib.Core.Bool.{Bool, true, false, not, _&&_, _||_}
 use mathlib.Core.List.{List, [], _∷_}
-use Prim.Native.Nat.{ℕ, zero, suc}
+use Prim.Native.Nat.{ℕ, zero, suc, _+_, _≤_}
 use native.Mathlib.Omega.{arith}
 use lib.Dec.{T, eqb, ltb}
 use Rattle.lists.specs.Choice.{pick}
@@ -23,11 +23,12 @@ use Rattle.record.specs.declared.request.Conflict.{Conflict}
 use Rattle.record.specs.declared.request.VirtualConflict.{VirtualConflict}
 use Rattle.record.specs.declared.request.Request.the-variants as Q
 use Rattle.rules.specs.Act.{change, _then_, look}
-use Rattle.rules.specs.Slots.{isVertex, isNone, isSome, up}
+use Rattle.rules.specs.Slots.{isNone, isSome, up}
 use Rattle.rules.specs.Sound.{isDefectInside}
 use Rattle.rules.specs.Trees.{isUnloaded, loaded, seen, rootWithin, sameTree}
 use Rattle.rules.specs.Matching.{temporaryMatchVirtual}
-use Rattle.rules.specs.Conflict.{conflictLink, resolved, conflict, freed, virtualConflict}
+use Rattle.rules.specs.Conflict.{conflictLink, blossomInTree, resolved, conflict, freed, virtualConflict}
+use Rattle.rules.specs.Blossom.{lacksBlossomSlot}
 use Rattle.refusal.specs.declared.Verdict.{Verdict}
 use Rattle.refusal.specs.declared.Verdict.the-variants as W
 use Rattle.rules.specs.Refusals.{Check, firstOf, conflictChecks, virtualChecks, isNotOuter, isOutside, isMinusNode, isGrowing, isNoNode, makesBlossom, isNoVertex, conflictNodeChecks, virtualNodeChecks}
@@ -40,7 +41,7 @@ use Rattle.rules.proofs.Climbing.{inside→}
 use Rattle.rules.proofs.Renewing.{Whole, Kept, kept-then}
 use Rattle.rules.proofs.Matches.{RightLink, right-kept}
 use Rattle.rules.proofs.Loading.{Loaded, unloaded→, load-does}
-use Rattle.rules.proofs.Resolving.{spot, resolved-whole, freed-whole}
+use Rattle.rules.proofs.Resolving.{OneTree, spot, resolved-whole, freed-whole}
 
 -- ---- "The first that applies is given": none applies
 
@@ -91,6 +92,7 @@ record Acceptable (t : Table) (c : Conflict) : Type 0 where
   vertex-2 : c .«vertex_2» .0 ≢ noVertex
   not-minus-1 : seen t (c .«node_1» .0) .state ≢ S.Shrink
   not-minus-2 : seen t (c .«node_2» .0) .state ≢ S.Shrink
+  slot : (makesBlossom t (c .«node_1» .0) (c .«node_2» .0) && lacksBlossomSlot t) ≡ false
 
 acceptable : (t : Table) (room : ℕ) (c : Conflict) → verdict (Q.Conflict c) t room ≡ W.Accepted → Acceptable t c
 unfolding verdict conflictNodeChecks
@@ -116,6 +118,7 @@ acceptable t room c e =
       vertex-2 = vertex-some u (named .1);
       not-minus-1 = λ q. no-test (isMinusNode t x) (minus .0) (shrink↔ (seen t x .state) .1 q);
       not-minus-2 = λ q. no-test (isMinusNode t y) (minus .1) (shrink↔ (seen t y .state) .1 q);
+      slot = r .1 .1 .1 .1 .1 .1 .1 .0;
     }
 
 -- ---- both nodes loaded
@@ -162,7 +165,15 @@ conflict-table : (t : Table) (c : Conflict) → conflict c t .table ≡ resolved
 unfolding conflict change _then_
 conflict-table t c = refl
 
-module _ (t : Table) (c : Conflict) (w : Whole t) (ok : Acceptable t c) (no-blossom : ¬ T (makesBlossom t (c .«node_1» .0) (c .«node_2» .0))) where
+-- what the row of one tree is asked for: that it keeps a table sound in which a blossom slot is left
+abbrev pub BlossomKeeps : Conflict → Type 0
+BlossomKeeps c =
+    (u : Table)
+    → OneTree u (c .«node_1» .0) (c .«node_2» .0) (conflictLink c)
+    → ¬ T (lacksBlossomSlot u)
+    → Whole (blossomInTree (c .«node_1» .0) (c .«node_2» .0) (conflictLink c) u .table)
+
+module _ (t : Table) (c : Conflict) (w : Whole t) (ok : Acceptable t c) where
   abbrev x : ℕ
   x = c .«node_1» .0
 
@@ -201,26 +212,41 @@ module _ (t : Table) (c : Conflict) (w : Whole t) (ok : Acceptable t c) (no-blos
   kept : Kept t t₂
   kept = kept-then t t₁ t₂ (first .kept) (second .kept)
 
-  apart : place (at t₂ x) ≡ P.Tree → place (at t₂ y) ≡ P.Tree → ¬ T (sameTree t₂ x y)
-  apart p q h =
-      let a : T (inTree (seen t x)) = rw t₂-x at (place-tree (at t₂ x) p) in
-      let b : T (inTree (seen t y)) = rw t₂-y at (place-tree (at t₂ y) q) in
-      let s : T (sameTree t x y) = rw (same-tree-same t t₂ ups x y) at h in
-      no-blossom (→and (inTree (seen t x) && inTree (seen t y)) (sameTree t x y) (→and (inTree (seen t x)) (inTree (seen t y)) a b) s)
+  -- "one tree", as the checks see it
+  makes : OneTree t₂ x y (conflictLink c) → T (makesBlossom t x y)
+  makes h =
+      let a : T (inTree (seen t x)) = rw t₂-x at (place-tree (at t₂ x) (h .place-1)) in
+      let b : T (inTree (seen t y)) = rw t₂-y at (place-tree (at t₂ y) (h .place-2)) in
+      let s : T (sameTree t x y) = rw (same-tree-same t t₂ ups x y) at (h .same) in
+      →and (inTree (seen t x) && inTree (seen t y)) (sameTree t x y) (→and (inTree (seen t x)) (inTree (seen t y)) a b) s
 
-  conflict-whole : Whole (conflict c t .table)
-  conflict-whole =
+  slot-left : T (makesBlossom t x y) → ¬ T (lacksBlossomSlot t₂)
+  slot-left m h =
+      let e : t₂ .blossoms ≡ t .blossoms = second .blossoms ∙ first .blossoms in
+      let l : 256 ≤ t₂ .begin + t₂ .blossoms = simp tests at h in
+      let q : T (lacksBlossomSlot t) = simp tests (omega (arith, l, e, kept .begin)) in
+      no-test (makesBlossom t x y && lacksBlossomSlot t) (ok .slot) (→and (makesBlossom t x y) (lacksBlossomSlot t) m q)
+
+  conflict-whole : (OneTree t₂ x y (conflictLink c) → Whole (blossomInTree x y (conflictLink c) t₂ .table)) → Whole (conflict c t .table)
+  conflict-whole h =
       rw (conflict-table t c)
       (resolved-whole t₂ x y (conflictLink c) (second .whole) (ok .two) (right-kept t t₂ x (conflictLink c) y kept right)
-      (rw t₂-x (ok .outer-1)) (rw t₂-y (ok .outer-2)) (rw t₂-x (ok .not-minus-1)) (rw t₂-y (ok .not-minus-2)) apart)
+      (rw t₂-x (ok .outer-1)) (rw t₂-y (ok .outer-2)) (rw t₂-x (ok .not-minus-1)) (rw t₂-y (ok .not-minus-2)) h)
 
+-- every row, if making a blossom keeps a sound table sound
+pub conflict-keeps-by : (t : Table) (room : ℕ) (c : Conflict) → Whole t → verdict (Q.Conflict c) t room ≡ W.Accepted → BlossomKeeps c → Whole (conflict c t .table)
+conflict-keeps-by t room c w e h =
+    let ok = acceptable t room c e in
+    conflict-whole t c w ok (λ o. h (loaded (c .«node_2» .0) (loaded (c .«node_1» .0) t)) o (slot-left t c w ok (makes t c w ok o)))
+
+-- every row but that of one tree
 pub conflict-keeps :
     (t : Table) (room : ℕ) (c : Conflict)
     → Whole t
     → verdict (Q.Conflict c) t room ≡ W.Accepted
     → ¬ T (makesBlossom t (c .«node_1» .0) (c .«node_2» .0))
     → Whole (conflict c t .table)
-conflict-keeps t room c w e d = conflict-whole t c w (acceptable t room c e) d
+conflict-keeps t room c w e d = let ok = acceptable t room c e in conflict-whole t c w ok (λ o. absurd (d (makes t c w ok o)))
 
 -- ---- a virtual conflict
 

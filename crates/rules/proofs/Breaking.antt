@@ -14,7 +14,7 @@ use Rattle.rules.proofs.Past.{outer-below}
 use Rattle.rules.proofs.KindLaws.{paired-back}
 use Rattle.rules.proofs.Frames.{in-or-not}
 use Rattle.rules.proofs.Singles.{Single, Lone, lone-free, lone-paired, lone-single, singles-apart, ends-lone}
-use Rattle.rules.proofs.Renewing.{Whole, Fits, Kept, SameCounts, kept-each}
+use Rattle.rules.proofs.Renewing.{of-none, Whole, Fits, Kept, SameCounts, kept-each}
 use Rattle.rules.proofs.Splitting.{freed}
 
 pub free-freed : (s : Slot) → Free (freed s)
@@ -32,8 +32,8 @@ broken-slots : (t : Table) (p x : ℕ) → Full t → p < 256 → x < 256 → p 
 unfolding broken
 broken-slots t p x full lp lx d f =
     record {
-      first = simp (at-put-other, at-put-same, put-full);
-      second = simp (at-put-other, at-put-same, put-full);
+      first = simp (at-put-same, put-full);
+      second = simp (at-put-other, at-put-same);
       other = λ j m.
           let a : j ≢ p = λ e. m (inl e) in
           let b : j ≢ x = λ e. m (inr (inl e)) in
@@ -69,9 +69,9 @@ module _ (t : Table) (p x : ℕ) (w : Whole t) (pair : Paired t p x) where
       record {
         outer = tt;
         ring = refl;
-        pointers = record { parent = λ d. absurd (d refl); child = λ d. absurd (d refl); sibling = λ d. absurd (d refl); ring = w .rest .pointers n .ring };
-        touch = λ d. absurd (d refl);
-        peer-touch = λ d. absurd (d refl);
+        pointers = record { parent = of-none; child = of-none; sibling = of-none; ring = w .rest .pointers n .ring };
+        touch = of-none;
+        peer-touch = of-none;
       }
 
   pub break-kept : Kept t u

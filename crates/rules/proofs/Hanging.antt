@@ -24,7 +24,7 @@ use Rattle.rules.proofs.OuterLists.{parent-outer}
 use Rattle.rules.proofs.TouchLaws.{peer-touch-paired}
 use Rattle.rules.proofs.Frames.{in-or-not, some-outer, no-children, one-child, next-upward, SeenAlike, core-frame}
 use Rattle.rules.proofs.Singles.{Single, lone-paired, lone-single, no-parent-of, no-first-child}
-use Rattle.rules.proofs.Renewing.{Whole, Fits, Kept, SameCounts, kept-each, alter-full}
+use Rattle.rules.proofs.Renewing.{of-none, Whole, Fits, Kept, SameCounts, kept-each, alter-full}
 use Rattle.rules.proofs.Matches.{RightLink}
 
 pub hang-table :
@@ -65,7 +65,7 @@ hang-slots :
 unfolding alter
 hang-slots t plus l matched peer full lp lm lq a b c d e f =
     record {
-      here = simp (hang-table, at-put-other, at-put-same, put-full);
+      here = simp (hang-table, at-put-other, at-put-same);
       minus = simp (hang-table, at-put-other, at-put-same, put-full);
       leaf = simp (hang-table, at-put-other, at-put-same, put-full);
       other = λ n m.
@@ -157,7 +157,7 @@ module _ (t : Table) (plus : ℕ) (l : Link) (matched peer : ℕ) (w : Whole t) 
             record {
               parent = λ _. outer-present (at t matched .state) outer-matched;
               child = w .rest .pointers peer .child;
-              sibling = λ d. absurd (d refl);
+              sibling = of-none;
               ring = w .rest .pointers peer .ring;
             };
         touch = w .rest .touches peer .touch;

@@ -22,7 +22,7 @@ use Rattle.rules.proofs.Reflect.{and→, same-or-not, test-case, test-t
 use Rattle.rules.proofs.ReflectSlots.{not-present↔}
 use Rattle.rules.proofs.Frames.{Apart}
 use Rattle.rules.proofs.Singles.{lone-free, ends-lone}
-use Rattle.rules.proofs.Renewing.{Whole, Renewed, Kept, kept-self, kept-renewed}
+use Rattle.rules.proofs.Renewing.{of-none, Whole, Renewed, Kept, kept-self, kept-renewed}
 
 -- the table with a new node in slot n
 unfoldable withNew : Table → ℕ → Table
@@ -62,15 +62,12 @@ module _ (t : Table) (n : ℕ) (w : Whole t) (defect : n < t .begin) (empty : at
         blossoms-fit = omega (arith, z .blossoms-fit, counts .0, counts .2);
       }
 
-  no : {A : Type 0} → none ≢ none → A
-  no d = absurd (d refl)
-
   new-renewed : Renewed t (withNew t n) n
   new-renewed =
       record {
         was = inr (defect, empty);
         given = inl (omega (arith, counts .1));
-        fits = rw new-here (record { outer = tt; ring = sym (ap (λ (s : Slot). s .ring) (w .rest .bare n empty)); pointers = record { parent = no; child = no; sibling = no; ring = no }; touch = no; peer-touch = no });
+        fits = rw new-here (record { outer = tt; ring = sym (ap (λ (s : Slot). s .ring) (w .rest .bare n empty)); pointers = record { parent = of-none; child = of-none; sibling = of-none; ring = of-none }; touch = of-none; peer-touch = of-none });
       }
 
   new-kept : Kept t (withNew t n)
@@ -107,6 +104,7 @@ module _ (t : Table) (n : ℕ) (w : Whole t) (defect : n < t .begin) (empty : at
 pub record Loaded (t : Table) (n : ℕ) (u : Table) : Type 0 where
   pub whole : Whole u
   pub kept : Kept t u
+  pub blossoms : u .blossoms ≡ t .blossoms
   pub here : at u n ≡ seen t n
   pub other : (m : ℕ) → m ≢ n → at u m ≡ at t m
   pub free : T (isUnloaded t n) → Free (at u n)
@@ -127,10 +125,11 @@ load-does t n w = go (test-case (isUnloaded t n))
         (record {
           whole = record { full = new-full t n w (q .0) (q .1); core = new-core t n w (q .0) (q .1); rest = new-kept t n w (q .0) (q .1) .rest };
           kept = new-kept t n w (q .0) (q .1);
+          blossoms = counts t n w (q .0) (q .1) .2;
           here = rw (test-true (isUnloaded t n) h) (new-here t n w (q .0) (q .1));
           other = new-other t n w (q .0) (q .1);
           free = λ _. new-free t n w (q .0) (q .1);
         })
     go (inr h) =
         let e = test-false (isUnloaded t n) (not↔ (isUnloaded t n) .0 h) in
-        rw e (record { whole = w; kept = kept-self t (w .full) (w .rest); here = rw e; other = λ m d. refl; free = λ k. absurd (not↔ (isUnloaded t n) .0 h k) })
+        rw e (record { whole = w; kept = kept-self t (w .full) (w .rest); blossoms = refl; here = rw e; other = λ m d. refl; free = λ k. absurd (not↔ (isUnloaded t n) .0 h k) })

@@ -20,7 +20,7 @@ use Rattle.rules.proofs.ReflectSlots.{outer-present}
 use Rattle.rules.proofs.KindLaws.{paired-back}
 use Rattle.rules.proofs.Past.{outer-below}
 use Rattle.rules.proofs.Singles.{Single, Lone, lone-virtual, lone-paired, Alone, alone-single, no-peer, singles-apart, ends-lone}
-use Rattle.rules.proofs.Renewing.{Whole, Fits, Kept, kept-put, kept-then}
+use Rattle.rules.proofs.Renewing.{of-none, Whole, Fits, Kept, kept-put, kept-then}
 
 -- a full link from a to b: "A link's touch is a defect inside its node. Its peer touch is a defect inside the matched peer"
 pub record RightLink (t : Table) (a : ℕ) (l : Link) (b : ℕ) : Type 0 where
@@ -46,7 +46,7 @@ matched-table a l b t = refl
 module _ (t : Table) (a : ℕ) (l : Link) (b : ℕ) (full : Full t) (below-a : a < 256) (below-b : b < 256) (apart : a ≢ b) where
   pub match-first : at (temporaryMatch a l b t .table) a ≡ matchedTo b l (at t a)
   unfolding alter
-  match-first = simp (matched-table, at-put-other, at-put-same, put-full)
+  match-first = simp (matched-table, at-put-other, at-put-same)
 
   pub match-second : at (temporaryMatch a l b t .table) b ≡ matchedTo a (mirror l) (at t b)
   unfolding alter
@@ -92,7 +92,7 @@ fits-matched t n peer l rest there touch peer-touch =
     record {
       outer = tt;
       ring = refl;
-      pointers = record { parent = λ d. absurd (d refl); child = λ d. absurd (d refl); sibling = there; ring = rest .pointers n .ring };
+      pointers = record { parent = of-none; child = of-none; sibling = there; ring = rest .pointers n .ring };
       touch = touch;
       peer-touch = peer-touch;
     }
@@ -166,7 +166,7 @@ module _ (t : Table) (n touch vertex virtual : ℕ) (w : Whole t) (alone : Alone
   unfolding u
   virtual-kept =
       kept-put t n (matchedTo none (virtualLink touch vertex virtual) (at t n)) (w .full) (w .rest) (alone-single alone .outer)
-      (fits-matched t n none (virtualLink touch vertex virtual) (w .rest) (λ d. absurd (d refl)) (λ _. inside) (λ d. absurd (d refl)))
+      (fits-matched t n none (virtualLink touch vertex virtual) (w .rest) of-none (λ _. inside) of-none)
 
   here : at u n ≡ matchedTo none (virtualLink touch vertex virtual) (at t n)
   unfolding u

@@ -32,6 +32,10 @@ pub record Whole (t : Table) : Type 0 where
   pub core : Core t
   pub rest : Rest t
 
+-- what is asked only where there is a node is not asked of none
+pub of-none : {A : Type 0} → none ≢ none → A
+of-none d = absurd (d refl)
+
 -- where the link of an outer node leads, read from its slot
 abbrev pub farOf : Slot → ℕ
 farOf s = pick (isOuter (s .state) && isSome (s .parent)) (s .parent) (s .sibling)

@@ -1,12 +1,10 @@
 -- "Reset empties all slots and zeroes both counts": a table as made is sound.
-use mathlib.Core.Path.{_≡_, refl, ap}
-use mathlib.Core.Logic.{_≢_}
+use mathlib.Core.Path.{_≡_, ap}
 use Prim.Native.Nat.{ℕ, _≤_, _<_}
 use native.Mathlib.Decide.{decLt}
 use native.Mathlib.Omega.{arith}
 use lib.Dec.{T}
 use lib.ListN.{length-replicate, getD-replicate}
-use Rattle.slot.specs.Number.{none}
 use Rattle.slot.specs.Slot.{Slot, emptySlot}
 use Rattle.table.specs.Table.{Table, at}
 use Rattle.table.proofs.Laws.{Full, at-out}
@@ -15,7 +13,7 @@ use Rattle.nodes.specs.Nodes.{present}
 use Rattle.rules.specs.Facts.{Sizes, Pointers}
 use Rattle.rules.specs.FactsOfBlossoms.{Touches}
 use Rattle.rules.proofs.ReflectSlots.{outer-present, inner-present}
-use Rattle.rules.proofs.Renewing.{Whole}
+use Rattle.rules.proofs.Renewing.{of-none, Whole}
 
 fresh-full : (b : ℕ) → Full (fresh b)
 unfolding fresh
@@ -31,18 +29,15 @@ fresh-at b n = elim (decLt n 256) [ yes l ↦ fresh-below b n l | no g ↦ at-ou
 fresh-absent : (b n : ℕ) → ¬ T (present (fresh b) n)
 fresh-absent b n p = rw (fresh-at b n) at p
 
-no : {A : Type 0} → none ≢ none → A
-no d = absurd (d refl)
-
 fresh-sizes : (b : ℕ) → 1 ≤ b → b ≤ 256 → Sizes (fresh b)
 unfolding fresh
 fresh-sizes b low high = record { some-defect = low; begin-fits = high; defects-fit = omega arith; blossoms-fit = omega arith }
 
 fresh-pointers : (b n : ℕ) → Pointers (fresh b) (at (fresh b) n)
-fresh-pointers b n = rw (fresh-at b n) (record { parent = no; child = no; sibling = no; ring = no })
+fresh-pointers b n = rw (fresh-at b n) (record { parent = of-none; child = of-none; sibling = of-none; ring = of-none })
 
 fresh-touches : (b n : ℕ) → Touches (fresh b) n
-fresh-touches b n = record { touch = rw (fresh-at b n) no; peer-touch = λ d. absurd (d (ap (λ (s : Slot). s .link .peerTouch) (fresh-at b n))) }
+fresh-touches b n = record { touch = rw (fresh-at b n) of-none; peer-touch = λ d. absurd (d (ap (λ (s : Slot). s .link .peerTouch) (fresh-at b n))) }
 
 fresh-whole : (b : ℕ) → 1 ≤ b → b ≤ 256 → Whole (fresh b)
 fresh-whole b low high =

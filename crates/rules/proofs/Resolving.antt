@@ -1,8 +1,8 @@
 -- A conflict of two loaded nodes, and a virtual conflict of one, on a sound table: by the place of each node, the row that applies
--- keeps the table sound. The row of one tree, which makes a blossom, is left out.
+-- keeps the table sound. For the row of one tree, which makes a blossom, that is asked for.
 use mathlib.Core.Path.{_≡_, refl, sym}
-use mathlib.Core.Logic.{_≢_}
-use mathlib.Core.Bool.{false}
+use mathlib.Core.Logic.{_≢_, _⊎_, inl, inr}
+use mathlib.Core.Bool.{true, false, not}
 use Prim.Native.Nat.{ℕ}
 use lib.Dec.{T}
 use Rattle.slot.specs.declared.state.State.the-variants as S
@@ -18,10 +18,10 @@ use Rattle.rules.specs.Act.{skip, _then_, look, read, choose}
 use Rattle.rules.specs.Slots.{next}
 use Rattle.rules.specs.Trees.{root, sameTree}
 use Rattle.rules.specs.Matching.{temporaryMatch, temporaryMatchVirtual, augmentWholeTree}
-use Rattle.rules.specs.Conflict.{treesMeet, rowOf, resolved, freed}
+use Rattle.rules.specs.Conflict.{blossomInTree, treesMeet, rowOf, resolved, freed}
 use Rattle.rules.specs.FactsOfNodes.{Free, Virtual, Paired, Kind, free-node, virtual-node, paired-node, root-node, minus-node, plus-node}
 use Rattle.rules.specs.FactsOfBlossoms.{DefectInside}
-use Rattle.rules.proofs.Reflect.{test-false}
+use Rattle.rules.proofs.Reflect.{test-case, test-true, test-false, not↔}
 use Rattle.rules.proofs.ReflectSlots.{stay-grow}
 use Rattle.rules.proofs.KindLaws.{kind-place}
 use Rattle.rules.proofs.WaysUp.{sameTree↔}
@@ -58,6 +58,21 @@ meet-table :
 unfolding treesMeet read choose _then_
 meet-table x y l t e = rw e
 
+one-table : (x y : ℕ) (l : Link) (t : Table) → sameTree t x y ≡ true → treesMeet x y l t .table ≡ blossomInTree x y l t .table
+unfolding treesMeet read choose
+one-table x y l t e = rw e
+
+-- two different + nodes of one tree, and a right link between them
+pub record OneTree (t : Table) (x y : ℕ) (l : Link) : Type 0 where
+  pub whole : Whole t
+  pub two : x ≢ y
+  pub right : RightLink t x l y
+  pub grows-1 : at t x .state ≡ S.Grow
+  pub grows-2 : at t y .state ≡ S.Grow
+  pub place-1 : place (at t x) ≡ P.Tree
+  pub place-2 : place (at t y) ≡ P.Tree
+  pub same : T (sameTree t x y)
+
 module _ (t : Table) (x y : ℕ) (l : Link) (w : Whole t) (x≢y : x ≢ y) (right : RightLink t x l y) where
   y≢x : y ≢ x
   y≢x e = x≢y (sym e)
@@ -68,10 +83,16 @@ module _ (t : Table) (x y : ℕ) (l : Link) (w : Whole t) (x≢y : x ≢ y) (rig
   apart : T (outer t x) → ¬ T (sameTree t x y) → root t x ≢ root t y
   apart o d e = d (sameTree↔ t (w .full) (w .core) x y o .1 e)
 
-  meet-whole : at t x .state ≡ S.Grow → at t y .state ≡ S.Grow → ¬ T (sameTree t x y) → Whole (treesMeet x y l t .table)
-  meet-whole gx gy d = rw (meet-table x y l t (test-false (sameTree t x y) d)) (two-trees t x y l w gx gy (apart (rw gx tt) d) right)
+  meet-whole : at t x .state ≡ S.Grow → at t y .state ≡ S.Grow → (T (sameTree t x y) → Whole (blossomInTree x y l t .table)) → Whole (treesMeet x y l t .table)
+  meet-whole gx gy h = go (test-case (sameTree t x y))
+    where
+      go : T (sameTree t x y) ⊎ T (not (sameTree t x y)) → Whole (treesMeet x y l t .table)
+      go (inl e) = rw (one-table x y l t (test-true (sameTree t x y) e)) (h e)
+      go (inr e) =
+          let d = not↔ (sameTree t x y) .0 e in
+          rw (meet-table x y l t (test-false (sameTree t x y) d)) (two-trees t x y l w gx gy (apart (rw gx tt) d) right)
 
-  row-whole : (p q : Place) → Spot t x p → Spot t y q → (p ≡ P.Tree → q ≡ P.Tree → ¬ T (sameTree t x y)) → Whole (rowOf p q x y l t .table)
+  row-whole : (p q : Place) → Spot t x p → Spot t y q → (p ≡ P.Tree → q ≡ P.Tree → at t x .state ≡ S.Grow → at t y .state ≡ S.Grow → T (sameTree t x y) → Whole (blossomInTree x y l t .table)) → Whole (rowOf p q x y l t .table)
   unfolding skip _then_
   row-whole P.Free P.Free (free-spot f) (free-spot g) h = match-whole t x l y w x≢y (alone-free f) (alone-free g) right
   row-whole P.Free (P.Paired q) (free-spot f) (paired-spot peer g) h = grow-whole t x (mirror l) y peer w f g back
@@ -88,18 +109,20 @@ module _ (t : Table) (x y : ℕ) (l : Link) (w : Whole t) (x≢y : x ≢ y) (rig
   row-whole P.Tree P.Free (tree-spot f) (free-spot g) h = tree-alone t y x l w (alone-free g) f y≢x right
   row-whole P.Tree (P.Paired q) (tree-spot f) (paired-spot peer g) h = hang-whole t x (mirror l) y peer w f g back
   row-whole P.Tree P.Virtual (tree-spot f) (virtual-spot g) h = alone-tree t y x (mirror l) w (alone-virtual g) f y≢x back
-  row-whole P.Tree P.Tree (tree-spot f) (tree-spot g) h = meet-whole f g (h refl refl)
+  row-whole P.Tree P.Tree (tree-spot f) (tree-spot g) h = meet-whole f g (h refl refl f g)
 
-  -- two outer nodes, neither −, not of one tree
+  -- two outer nodes, neither −
   pub resolved-whole :
       T (outer t x)
       → T (outer t y)
       → at t x .state ≢ S.Shrink
       → at t y .state ≢ S.Shrink
-      → (place (at t x) ≡ P.Tree → place (at t y) ≡ P.Tree → ¬ T (sameTree t x y))
+      → (OneTree t x y l → Whole (blossomInTree x y l t .table))
       → Whole (resolved x y l t .table)
   unfolding resolved look
-  resolved-whole ox oy dx dy h = row-whole (place (at t x)) (place (at t y)) (spot t w x ox dx) (spot t w y oy dy) h
+  resolved-whole ox oy dx dy h =
+      row-whole (place (at t x)) (place (at t y)) (spot t w x ox dx) (spot t w y oy dy)
+      (λ p q gx gy e. h (record { whole = w; two = x≢y; right = right; grows-1 = gx; grows-2 = gy; place-1 = p; place-2 = q; same = e }))
 
 -- ---- a virtual conflict
 

@@ -23,7 +23,7 @@ use Rattle.rules.proofs.Past.{outer-below}
 use Rattle.rules.proofs.ChildLaws.{first-child, child-of-grow, child-of-shrink, minus-only}
 use Rattle.rules.proofs.Frames.{in-or-not, some-outer, no-children, Pruned, pruned-chain, SeenAlike, core-frame}
 use Rattle.rules.proofs.Below.{Below, below-child, below-join, not-below-self}
-use Rattle.rules.proofs.Renewing.{Whole, Fits, Kept, SameCounts, kept-each}
+use Rattle.rules.proofs.Renewing.{of-none, Whole, Fits, Kept, SameCounts, kept-each}
 
 abbrev pub freed : Slot → Slot
 freed s = shaped S.Grow none none none noLink s
@@ -83,9 +83,9 @@ split-slots :
 unfolding split
 split-slots t y n c full ly ln lc p q r s x z =
     record {
-      above = simp (at-put-other, at-put-same, put-full);
+      above = simp (at-put-other, at-put-same);
       middle = simp (at-put-other, at-put-same, put-full);
-      lower = simp (at-put-other, at-put-same, put-full);
+      lower = simp (at-put-same, put-full);
       other = λ j m.
           let a : j ≢ y = λ e. m (inl e) in
           let b : j ≢ n = λ e. m (inr (inl e)) in
@@ -146,9 +146,6 @@ module _ (t : Table) (y n c : ℕ) (w : Whole t) (b : Branch t y n c) where
   unfolding split put
   split-counts = record { begin = refl; defects = refl; blossoms = refl }
 
-  no : {A : Type 0} → none ≢ none → A
-  no d = absurd (d refl)
-
   fits-above : Fits t y (withFirstChild (next t n) (at t y))
   fits-above =
       let p = w .rest .pointers y in
@@ -166,9 +163,9 @@ module _ (t : Table) (y n c : ℕ) (w : Whole t) (b : Branch t y n c) where
       record {
         outer = tt;
         ring = refl;
-        pointers = record { parent = no; child = names; sibling = no; ring = w .rest .pointers j .ring };
-        touch = no;
-        peer-touch = no;
+        pointers = record { parent = of-none; child = names; sibling = of-none; ring = w .rest .pointers j .ring };
+        touch = of-none;
+        peer-touch = of-none;
       }
 
   split-each : (j : ℕ) → (at u j ≡ at t j) ⊎ (T (outer t j) × Fits t j (at u j))
@@ -176,7 +173,7 @@ module _ (t : Table) (y n c : ℕ) (w : Whole t) (b : Branch t y n c) where
     where
       go : (j ∈ ws) ⊎ ¬ (j ∈ ws) → (at u j ≡ at t j) ⊎ (T (outer t j) × Fits t j (at u j))
       go (inl (inl e)) = inr (rw e (outer-y, rw (split-does .above) fits-above))
-      go (inl (inr (inl e))) = inr (rw e (b .child .0, rw (split-does .middle) (fits-off n none no)))
+      go (inl (inr (inl e))) = inr (rw e (b .child .0, rw (split-does .middle) (fits-off n none of-none)))
       go (inl (inr (inr (inl e)))) = inr (rw e (b .grandchild .0, rw (split-does .lower) (fits-off c (at t c .firstChild) (w .rest .pointers c .child))))
       go (inl (inr (inr (inr z)))) = absurd z
       go (inr d) = inl (split-does .other j d)
