@@ -8,8 +8,6 @@ use record::VirtualConflict;
 use refusal::Answer;
 use table::Table;
 ghost use mathlib.Core.Path.{_≡_};
-ghost use Prim.Native.Nat.{_-_};
-ghost use lib.ListN.{length};
 ghost use Rattle.refusal.specs.Refusal.{answerNumber};
 ghost use Rattle.record.specs.declared.request.Request.the-variants as Q;
 ghost use Rattle.record.specs.declared.answer.Record.the-variants as R;
@@ -77,15 +75,6 @@ fn serve(t: &mut Table, out: &mut [u8], pos: usize, request: Request) -> usize
     }
 }
 
-fn room(out: &[u8], pos: usize) -> usize
-    ensures { λ r. ⌜ r ≡ length (now (out .entry)) - pos ⌝ }
-{
-    if pos < out.len() {
-        return out.len() - pos;
-    }
-    0
-}
-
 // Handles the tape's records, at most so many, and returns its unread rest. The stop, the refusal, the records handled and the
 // bytes written go into the numbers lent.
 pub fn run<'a>(
@@ -126,7 +115,7 @@ pub fn run<'a>(
             *written = pos;
             return rest;
         }
-        if room(out, pos) < 4102 {
+        if serving::room(out, pos) < 4102 {
             *stop = 2;
             *refusal = 0;
             *handled = count;

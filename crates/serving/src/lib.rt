@@ -13,7 +13,7 @@ ghost use Rattle.record.specs.declared.request.Request.the-variants as Q;
 ghost use Rattle.serving.specs.Answered.{Answered};
 
 // The bytes from a position on.
-fn room(out: &[u8], pos: usize) -> usize
+pub fn room(out: &[u8], pos: usize) -> usize
     ensures { λ r. ⌜ r ≡ length (now (out .entry)) - pos ⌝ }
 {
     if pos < out.len() {
