@@ -47,3 +47,5 @@ pub mod Resetting
 pub mod TreesInPairs
 pub mod Answering
 pub mod KeptWithoutBlossoms
+pub mod NamedExamples
+pub mod Counts

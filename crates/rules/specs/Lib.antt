@@ -12,6 +12,7 @@ pub mod Blossom
 pub mod Expansion
 pub mod Conflict
 pub mod Listing
+pub mod Named
 pub mod Refusals
 pub mod Calls
 pub mod Concerns
