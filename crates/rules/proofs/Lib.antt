@@ -49,3 +49,6 @@ pub mod Answering
 pub mod KeptWithoutBlossoms
 pub mod NamedExamples
 pub mod Counts
+pub mod RestOfRing
+pub mod InsideCounts
+pub mod NestedCalls
