@@ -52,3 +52,5 @@ pub mod Counts
 pub mod RestOfRing
 pub mod InsideCounts
 pub mod NestedCalls
+pub mod ListingLaws
+pub mod ListingBudget
