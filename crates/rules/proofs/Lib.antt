@@ -54,3 +54,5 @@ pub mod InsideCounts
 pub mod NestedCalls
 pub mod ListingLaws
 pub mod ListingBudget
+pub mod ListingCounts
+pub mod ListingEntries
