@@ -56,3 +56,5 @@ pub mod ListingLaws
 pub mod ListingBudget
 pub mod ListingCounts
 pub mod ListingEntries
+pub mod SlotsListed
+pub mod ListedOnce
