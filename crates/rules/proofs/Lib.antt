@@ -58,3 +58,5 @@ pub mod ListingCounts
 pub mod ListingEntries
 pub mod SlotsListed
 pub mod ListedOnce
+pub mod ListingRoom
+pub mod ListingEnough

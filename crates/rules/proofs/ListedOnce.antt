@@ -164,3 +164,25 @@ module _ (t : Table) (full : Full t) (sound : Sound t) where
         go (alone v q) = once-alone v (often-alone home v q)
         go (smaller p l q) = once-smaller p l (often-pair-here home p q)
         go (larger p l q) = once-larger p l
+
+  -- ---- every number
+
+  pub listing-count : (n : ℕ) → times n (namedIn (listing t)) ≡ pick (isListed t n) 1 0
+  unfolding often
+  listing-count n = go (test-case (isPresentDefect t n)) (test-case (isStay (at t (outerBlossom t n) .state)))
+    where
+      stay : Bool
+      stay = isStay (at t (outerBlossom t n) .state)
+
+      go : T (isPresentDefect t n) ⊎ T (not (isPresentDefect t n)) → T stay ⊎ T (not stay) → times n (namedIn (listing t)) ≡ pick (isListed t n) 1 0
+      go (inl h) (inl s) =
+          let r = and→ (isDefect t n) (present t n) h in
+          once-listed n (ltb→lt n (t .begin) (r .0)) (r .1) (stay↔ (at t (outerBlossom t n) .state) .0 s)
+          ∙ sym (pick-yes (isListed t n) 1 0 (→and (isPresentDefect t n) stay h s))
+      go (inl h) (inr s) =
+          let r = and→ (isDefect t n) (present t n) h in
+          never-listed n (ltb→lt n (t .begin) (r .0)) (r .1) (λ e. T-not stay s (stay↔ (at t (outerBlossom t n) .state) .1 e))
+          ∙ sym (pick-no (isListed t n) 1 0 (λ x. T-not stay s (and→ (isPresentDefect t n) stay x .1)))
+      go (inr h) s =
+          times-absent n (namedIn (listing t)) (λ m. T-not (isPresentDefect t n) h (each-names t (listing t) listing-entries n m))
+          ∙ sym (pick-no (isListed t n) 1 0 (λ x. T-not (isPresentDefect t n) h (and→ (isPresentDefect t n) stay x .0)))
