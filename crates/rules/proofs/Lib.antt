@@ -60,3 +60,4 @@ pub mod SlotsListed
 pub mod ListedOnce
 pub mod ListingRoom
 pub mod ListingEnough
+pub mod EachEventOnce

@@ -21,7 +21,7 @@ use Rattle.rules.specs.Chain.{_∈_}
 use Rattle.rules.specs.FactsOfNodes.{Virtual, Paired}
 use Rattle.rules.specs.FactsOfBlossoms.{Inside}
 use Rattle.rules.specs.Facts.{Rest, Sound}
-use Rattle.rules.specs.Named.{namedIn, one, times, isPresentDefect, isListed, Entry, Each}
+use Rattle.rules.specs.Named.{namedIn, one, times, isPresentDefect, isListed, AllMatched, Entry, Each}
 use Rattle.rules.proofs.Reflect.{and→, →and, pick-yes, pick-no, test-case}
 use Rattle.rules.proofs.ReflectSlots.{stay↔}
 use Rattle.rules.proofs.Past.{outer-below, present-some}
@@ -186,3 +186,19 @@ module _ (t : Table) (full : Full t) (sound : Sound t) where
       go (inr h) s =
           times-absent n (namedIn (listing t)) (λ m. T-not (isPresentDefect t n) h (each-names t (listing t) listing-entries n m))
           ∙ sym (pick-no (isListed t n) 1 0 (λ x. T-not (isPresentDefect t n) h (and→ (isPresentDefect t n) stay x .0)))
+
+  -- where no tree and no free node is left, every present defect is listed
+  pub matched-count : AllMatched t → (n : ℕ) → times n (namedIn (listing t)) ≡ pick (isPresentDefect t n) 1 0
+  matched-count all n = listing-count n ∙ go (test-case (isPresentDefect t n))
+    where
+      stay : Bool
+      stay = isStay (at t (outerBlossom t n) .state)
+
+      go : T (isPresentDefect t n) ⊎ T (not (isPresentDefect t n)) → pick {A = ℕ} (isListed t n) 1 0 ≡ pick (isPresentDefect t n) 1 0
+      go (inl h) =
+          let o = outer-blossom-outer t full (sound .rest) n (and→ (isDefect t n) (present t n) h .1) in
+          pick-yes (isListed t n) 1 0 (→and (isPresentDefect t n) stay h (stay↔ (at t (outerBlossom t n) .state) .1 (all (outerBlossom t n) o)))
+          ∙ sym (pick-yes (isPresentDefect t n) 1 0 h)
+      go (inr h) =
+          pick-no (isListed t n) 1 0 (λ x. T-not (isPresentDefect t n) h (and→ (isPresentDefect t n) stay x .0))
+          ∙ sym (pick-no (isPresentDefect t n) 1 0 (T-not (isPresentDefect t n) h))
