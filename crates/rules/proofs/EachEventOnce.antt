@@ -1,12 +1,14 @@
 -- The listing of a sound table names each defect that is matched once, and nothing else; its entries are links of the table, its
 -- bytes fit where refusal 10 is not given, and its budget is enough. The order of the entries is the definition's.
 use mathlib.Core.Path.{_≡_}
+use mathlib.Core.Logic.{_↔_, _⊎_}
 use mathlib.Core.List.{List, _++_}
 use Prim.Native.Nat.{ℕ, _+_, _*_, _≤_}
 use native.Mathlib.Omega.{arith}
 use lib.Dec.{T}
 use lib.ListN.{length, take, drop}
 use Rattle.lists.specs.Choice.{pick}
+use Rattle.slot.specs.declared.state.State.the-variants as S
 use Rattle.table.specs.Table.{Table, at}
 use Rattle.table.proofs.Laws.{Full}
 use Rattle.nodes.specs.Nodes.{isBlossom, outer}
@@ -21,6 +23,7 @@ use Rattle.rules.specs.Refusals.{presentDefects}
 use Rattle.rules.specs.Named.{namedIn, times, isPresentDefect, isListed, AllMatched, Entry, Each}
 use Rattle.rules.proofs.SoundFacts.{sound→facts}
 use Rattle.rules.proofs.ListedOnce.{listing-count, matched-count, listing-entries}
+use Rattle.rules.proofs.MatchedPlaces.{stay↔matched}
 use Rattle.rules.proofs.ListingRoom.{listing-size, run-written}
 use Rattle.rules.proofs.ListingEnough.{pair-budget, virtual-budget}
 
@@ -36,6 +39,10 @@ module _ (t : Table) (full : Full t) (s : T (sound t)) where
   -- a present defect is named once where the outer node around it is matched; no other number is named
   pub listed-once : (n : ℕ) → times n (namedIn (listing t)) ≡ pick (isListed t n) 1 0
   listed-once n = listing-count t full (sound→facts t full s) n
+
+  -- where `isListed` asks for Stay it asks for "matched": an outer node is Stay exactly where the conflict table has it matched
+  pub stay-is-matched : (n : ℕ) → T (outer t n) → (at t n .state ≡ S.Stay) ↔ ((place (at t n) ≡ Virtual) ⊎ ((peer : ℕ) × (place (at t n) ≡ Paired (nodeOf peer))))
+  stay-is-matched n o = stay↔matched t full n (sound→facts t full s .core .kind n o)
 
   -- where no tree and no free node is left, each present defect is named once, and no other number
   pub every-event-once : AllMatched t → (n : ℕ) → times n (namedIn (listing t)) ≡ pick (isPresentDefect t n) 1 0

@@ -1,35 +1,32 @@
 -- How many nodes are inside a node: a blossom holds itself and what its ring nodes hold, each once.
 use mathlib.Core.Path.{_≡_, refl, sym, ap, _∙_}
 use mathlib.Core.Logic.{_≢_, _⊎_, inl, inr}
-use mathlib.Core.Bool.{not}
-use mathlib.Core.List.{List, [], _∷_}
-use Prim.Native.Nat.{ℕ, zero, suc, _+_, _≤_, _<_}
+use Prim.Native.Nat.{ℕ, suc, _+_, _≤_, _<_}
 use native.Mathlib.Omega.{arith}
 use lib.Dec.{T, T-not}
 use Rattle.lists.specs.Choice.{pick}
 use Rattle.table.specs.Table.{Table, at}
 use Rattle.table.proofs.Laws.{Full}
-use Rattle.nodes.specs.Nodes.{present, outer, inner}
+use Rattle.nodes.specs.Nodes.{outer, inner}
 use Rattle.nodes.specs.Climb.{inside}
 use Rattle.rules.specs.Slots.{up}
-use Rattle.rules.specs.Chain.{_∈_}
-use Rattle.rules.specs.FactsOfBlossoms.{PresentBlossom, InnerChild, Ring, Inside}
+use Rattle.rules.specs.FactsOfBlossoms.{InnerChild, Ring, Inside}
 use Rattle.rules.specs.Facts.{Rest}
 use Rattle.rules.specs.Named.{one}
 use Rattle.rules.proofs.Reflect.{pick-yes, pick-no, test-case, same-or-not}
 use Rattle.rules.proofs.Climbing.{inside→, →inside}
 use Rattle.rules.proofs.RingLaws.{ring-once, ring-around, inner-parent-below}
 use Rattle.rules.proofs.InsideLaws.{inside-self, inside-ring-node, inside-join, inside-ring, inside-larger, one-ring-node, one-outer}
-use Rattle.rules.proofs.Counts.{one-same, one-other, total, total-none, total-one, sumBelow, sum-add, sum-same, sum-most, sum-one, sum-fits, sum-part, sum-total}
-use Rattle.rules.proofs.RestOfRing.{After, after-in-ring}
+use Rattle.rules.proofs.CountLaws.{one-same, one-other, total, total-none, total-one, sumBelow, sum-add, sum-most, sum-one, sum-fits, sum-part, sum-total}
+use Rattle.rules.proofs.RestOfRing.{after-in-ring}
 
 -- 1 where e is inside x
 unfoldable pub held : Table → ℕ → ℕ → ℕ
 held t e x = pick (inside t x e) 1 0
 
 -- the nodes inside x
-unfoldable pub holds : Table → ℕ → ℕ
-holds t x = sumBelow (λ e. held t e x) 256
+unfoldable pub nodesInside : Table → ℕ → ℕ
+nodesInside t x = sumBelow (λ e. held t e x) 256
 
 module _ (t : Table) (full : Full t) (rest : Rest t) where
   pub held-yes : (e x : ℕ) → Inside t x e → held t e x ≡ 1
@@ -89,32 +86,32 @@ module _ (t : Table) (full : Full t) (rest : Rest t) where
 
     -- ---- all of them
 
-    pub holds-ring : b < 256 → holds t b ≡ suc (total (holds t) (r .list))
-    unfolding holds
-    holds-ring l =
+    pub nodes-ring : b < 256 → nodesInside t b ≡ suc (total (nodesInside t) (r .list))
+    unfolding nodesInside
+    nodes-ring l =
         let f : ℕ → ℕ = λ e. one e b in
         let s = sum-add f (λ e. total (held t e) (r .list)) (λ e. held t e b) 256 held-in-ring in
         omega (arith, s, sum-total (held t) 256 (r .list), sum-one f b 256 l (one-same b b refl) (λ j d. one-other j b d))
 
   -- ---- every node holds itself, and a node inside another holds no more than it
 
-  pub holds-some : (x : ℕ) → x < 256 → 1 ≤ holds t x
-  unfolding holds
-  holds-some x l = omega (arith, held-yes x x (inside-self t x), sum-part (λ e. held t e x) x 256 l)
+  pub nodes-some : (x : ℕ) → x < 256 → 1 ≤ nodesInside t x
+  unfolding nodesInside
+  nodes-some x l = omega (arith, held-yes x x (inside-self t x), sum-part (λ e. held t e x) x 256 l)
 
-  pub holds-less : (x y : ℕ) → Inside t y x → holds t x ≤ holds t y
-  unfolding holds
-  holds-less x y i =
+  pub nodes-less : (x y : ℕ) → Inside t y x → nodesInside t x ≤ nodesInside t y
+  unfolding nodesInside
+  nodes-less x y i =
       sum-most (λ e. held t e x) (λ e. held t e y) 256 (λ e l. elim (inside-or-not x e) [ inl j ↦ omega (arith, held-yes e x j, held-yes e y (inside-join t y x e j i)) | inr d ↦ omega (arith, held-no e x d) ])
 
-  pub holds-fit : (x : ℕ) → holds t x ≤ 256
-  unfolding holds
-  holds-fit x = sum-fits (λ e. held t e x) 256 (λ e. held-most e x)
+  pub nodes-fit : (x : ℕ) → nodesInside t x ≤ 256
+  unfolding nodesInside
+  nodes-fit x = sum-fits (λ e. held t e x) 256 (λ e. held-most e x)
 
   -- two outer nodes hold no node both
-  pub holds-two : (x y : ℕ) → T (outer t x) → T (outer t y) → x ≢ y → holds t x + holds t y ≤ 256
-  unfolding holds
-  holds-two x y p q d =
+  pub nodes-two : (x y : ℕ) → T (outer t x) → T (outer t y) → x ≢ y → nodesInside t x + nodesInside t y ≤ 256
+  unfolding nodesInside
+  nodes-two x y p q d =
       let s = sum-add (λ e. held t e x) (λ e. held t e y) (λ e. held t e x + held t e y) 256 (λ e. refl) in
       omega (arith, s, sum-fits (λ e. held t e x + held t e y) 256 most)
     where
@@ -128,9 +125,9 @@ module _ (t : Table) (full : Full t) (rest : Rest t) where
   -- ---- an inner node, the ring nodes after it, and the blossom around them
 
   module _ (d : ℕ) (i : T (inner t d)) where
-    pub holds-above : holds t (up t d) ≡ suc (holds t d + total (holds t) (after-in-ring t full rest d i .list))
-    holds-above =
-        omega (arith, holds-ring (up t d) (ring-around t full rest d i) (inner-parent-below t full rest d i), after-in-ring t full rest d i .whole (holds t))
+    pub nodes-above : nodesInside t (up t d) ≡ suc (nodesInside t d + total (nodesInside t) (after-in-ring t full rest d i .list))
+    nodes-above =
+        omega (arith, nodes-ring (up t d) (ring-around t full rest d i) (inner-parent-below t full rest d i), after-in-ring t full rest d i .whole (nodesInside t))
 
     -- a defect is no blossom
     pub held-above : (e : ℕ) → e < t .begin → held t e (up t d) ≡ held t e d + total (held t e) (after-in-ring t full rest d i .list)

@@ -48,7 +48,7 @@ pub mod TreesInPairs
 pub mod Answering
 pub mod KeptWithoutBlossoms
 pub mod NamedExamples
-pub mod Counts
+pub mod CountLaws
 pub mod RestOfRing
 pub mod InsideCounts
 pub mod NestedCalls
@@ -59,5 +59,6 @@ pub mod ListingEntries
 pub mod SlotsListed
 pub mod ListedOnce
 pub mod ListingRoom
+pub mod MatchedPlaces
 pub mod ListingEnough
 pub mod EachEventOnce

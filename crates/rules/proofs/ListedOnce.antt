@@ -1,9 +1,9 @@
 -- How often the whole listing names a defect: once where the outer node around it is matched, and never otherwise.
-use mathlib.Core.Path.{_≡_, refl, sym, ap, _∙_}
+use mathlib.Core.Path.{_≡_, sym, ap, _∙_}
 use mathlib.Core.Logic.{_≢_, _⊎_, inl, inr}
-use mathlib.Core.Bool.{Bool, true, false, not, _&&_}
-use mathlib.Core.List.{List, [], _∷_, _++_}
-use Prim.Native.Nat.{ℕ, zero, suc, _+_, _≤_, _<_}
+use mathlib.Core.Bool.{Bool, not}
+use mathlib.Core.List.{[], _∷_, _++_}
+use Prim.Native.Nat.{ℕ, zero, suc, _+_, _<_}
 use native.Mathlib.Nat.{add-zero}
 use native.Mathlib.Omega.{arith}
 use lib.Dec.{T, T-not, ltb→lt}
@@ -14,24 +14,22 @@ use Rattle.table.specs.Table.{Table, at}
 use Rattle.table.proofs.Laws.{Full}
 use Rattle.nodes.specs.Nodes.{isDefect, present, outer}
 use Rattle.nodes.specs.Climb.{outerBlossom}
-use Rattle.record.specs.declared.answer.Record.{Record}
-use Rattle.rules.specs.Slots.{isStay, up, next}
+use Rattle.rules.specs.Slots.{isStay, next}
 use Rattle.rules.specs.Listing.{virtualEntry, pairListed, slotListed, slotsListed, listing}
-use Rattle.rules.specs.Chain.{_∈_}
 use Rattle.rules.specs.FactsOfNodes.{Virtual, Paired}
 use Rattle.rules.specs.FactsOfBlossoms.{Inside}
-use Rattle.rules.specs.Facts.{Rest, Sound}
-use Rattle.rules.specs.Named.{namedIn, one, times, isPresentDefect, isListed, AllMatched, Entry, Each}
+use Rattle.rules.specs.Facts.{Sound}
+use Rattle.rules.specs.Named.{namedIn, times, isPresentDefect, isListed, AllMatched, Entry, Each}
 use Rattle.rules.proofs.Reflect.{and→, →and, pick-yes, pick-no, test-case}
 use Rattle.rules.proofs.ReflectSlots.{stay↔}
 use Rattle.rules.proofs.Past.{outer-below, present-some}
 use Rattle.rules.proofs.KindLaws.{paired-back}
 use Rattle.rules.proofs.InsideLaws.{one-outer, outer-blossom-outer, outer-blossom-holds}
-use Rattle.rules.proofs.Counts.{times-absent, sumBelow, sum-none, sum-one}
-use Rattle.rules.proofs.InsideCounts.{held, holds, held-yes, held-no, holds-fit}
+use Rattle.rules.proofs.CountLaws.{times-absent, sumBelow, sum-none, sum-one}
+use Rattle.rules.proofs.InsideCounts.{held, held-yes, held-no, nodes-fit}
 use Rattle.rules.proofs.ListingLaws.{insideListed}
 use Rattle.rules.proofs.ListingCounts.{often, often-none, often-append, often-virtual, pair-names-all, inside-names-all}
-use Rattle.rules.proofs.ListingEntries.{each-append, each-names, pair-entry, virtual-entry, pair-entries-all, inside-entries-all}
+use Rattle.rules.proofs.ListingEntries.{each-append, each-names, virtual-entry, pair-entries-all, inside-entries-all}
 use Rattle.rules.proofs.SlotsListed.{SlotCase, unlisted, alone, smaller, larger, slot-case, smaller-listed, matched-joined, virtual-touch, matched-fits}
 
 module _ (t : Table) (full : Full t) (sound : Sound t) where
@@ -45,7 +43,7 @@ module _ (t : Table) (full : Full t) (sound : Sound t) where
       go (alone v e) =
           let p : T (present t n) = rw (v .stays) tt in
           let h = virtual-touch t full sound n v in
-          rw e (each-append (Entry t) (insideListed 256 n (at t n .link .touch) t) (virtualEntry (at t n .link) ∷ []) (inside-entries-all t full (sound .rest) 256 n (at t n .link .touch) p h (omega (arith, holds-fit t full (sound .rest) n))) (virtual-entry t full (sound .rest) n p h, tt))
+          rw e (each-append (Entry t) (insideListed 256 n (at t n .link .touch) t) (virtualEntry (at t n .link) ∷ []) (inside-entries-all t full (sound .rest) 256 n (at t n .link .touch) p h (omega (arith, nodes-fit t full (sound .rest) n))) (virtual-entry t full (sound .rest) n p h, tt))
       go (smaller p l e) =
           rw e (pair-entries-all t full (sound .rest) 256 n (next t n) (matched-joined t full sound n (next t n) p) (matched-fits t full sound n (next t n) p))
       go (larger p l e) = rw e tt
@@ -94,7 +92,7 @@ module _ (t : Table) (full : Full t) (sound : Sound t) where
     often-alone : (n : ℕ) → Virtual (at t n) → slotListed n t ≡ insideListed 256 n (at t n .link .touch) t ++ (virtualEntry (at t n .link) ∷ []) → often e (slotListed n t) ≡ held t e n
     often-alone n v q =
         let l = at t n .link in
-        omega (arith, ap (often e) q, often-append e (insideListed 256 n (l .touch) t) (virtualEntry l ∷ []), often-virtual e l, inside-names-all t full (sound .rest) e defect 256 n (l .touch) (rw (v .stays) tt) (virtual-touch t full sound n v) (omega (arith, holds-fit t full (sound .rest) n)))
+        omega (arith, ap (often e) q, often-append e (insideListed 256 n (l .touch) t) (virtualEntry l ∷ []), often-virtual e l, inside-names-all t full (sound .rest) e defect 256 n (l .touch) (rw (v .stays) tt) (virtual-touch t full sound n v) (omega (arith, nodes-fit t full (sound .rest) n)))
 
     often-pair-here : (n : ℕ) → Paired t n (next t n) → slotListed n t ≡ pairListed 256 n (next t n) (at t n .link) t → often e (slotListed n t) ≡ held t e n + held t e (next t n)
     often-pair-here n p q =
@@ -153,8 +151,8 @@ module _ (t : Table) (full : Full t) (sound : Sound t) where
         once-at h (rw (p .there .stays) tt)
         (omega (arith, q, stay-away h (p .there .stays) (p .another), ap (held t e) (p .points-back), held-home))
         (λ n d. silent n
-          (λ w z. paired-some h r (rw z at (w .siblingless)))
-          (λ s k. (λ z. let x : next t n ≡ next t home = ap (next t) z in omega arith, λ z. d (sym (back n s z)))))
+        (λ w z. paired-some h r (rw z at (w .siblingless)))
+        (λ s k. (λ z. let x : next t n ≡ next t home = ap (next t) z in omega arith, λ z. d (sym (back n s z)))))
 
     pub once-listed : at t home .state ≡ S.Stay → often e (listing t) ≡ 1
     once-listed s = go (slot-case t full sound home)

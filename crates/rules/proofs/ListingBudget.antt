@@ -1,5 +1,5 @@
 -- The budget of the listing: with one more, no call that the listing makes on a sound table lists anything else.
-use mathlib.Core.Path.{_≡_, refl, sym, ap, ap₂, _∙_}
+use mathlib.Core.Path.{_≡_, sym, ap, ap₂, _∙_}
 use mathlib.Core.Logic.{_≢_}
 use mathlib.Core.List.{List, [], _∷_, _++_}
 use Prim.Native.Nat.{ℕ, zero, suc, _+_, _≤_, _<_}
@@ -14,7 +14,7 @@ use Rattle.rules.specs.Slots.{up, next}
 use Rattle.rules.specs.Listing.{pairEntry, pairListed, levelsListed, ringListed}
 use Rattle.rules.specs.FactsOfBlossoms.{DefectInside}
 use Rattle.rules.specs.Facts.{Rest}
-use Rattle.rules.proofs.InsideCounts.{holds}
+use Rattle.rules.proofs.InsideCounts.{nodesInside}
 use Rattle.rules.proofs.NestedCalls.{Joined, afterOf, on-every-pair, on-every-node}
 use Rattle.rules.proofs.ListingLaws.{insideListed, inside-defect-listed, inside-blossom-listed, pair-listed, last-level-listed, level-listed, ring-end-listed, ring-pair-listed}
 
@@ -61,21 +61,21 @@ module _ (t : Table) (full : Full t) (rest : Rest t) where
   unfolding SameRing SamePair
   two-same k d n cs h p q = ring-pair-listed t (suc k) d n h ∙ ap₂ (λ (x y : List Record). x ++ y) p q ∙ sym (ring-pair-listed t k d n h)
 
-  one-more-pair : (k n peer : ℕ) → Joined t n peer → holds t n + holds t peer ≤ suc k → SamePair k n peer
+  one-more-pair : (k n peer : ℕ) → Joined t n peer → nodesInside t n + nodesInside t peer ≤ suc k → SamePair k n peer
   one-more-pair =
       on-every-pair t full rest SamePair SameInside SameLevels SameRing defect-same blossom-same pair-same last-same level-same end-same two-same
 
-  one-more-inside : (k n d : ℕ) → T (present t n) → DefectInside t n d → holds t n ≤ suc k → SameInside k n d
+  one-more-inside : (k n d : ℕ) → T (present t n) → DefectInside t n d → nodesInside t n ≤ suc k → SameInside k n d
   one-more-inside =
       on-every-node t full rest SamePair SameInside SameLevels SameRing defect-same blossom-same pair-same last-same level-same end-same two-same
 
   -- so a budget that is enough lists the same as every larger one
-  pub pair-enough : (k m n peer : ℕ) → Joined t n peer → holds t n + holds t peer ≤ suc k → pairListed (m + k) n peer (at t n .link) t ≡ pairListed k n peer (at t n .link) t
+  pub pair-enough : (k m n peer : ℕ) → Joined t n peer → nodesInside t n + nodesInside t peer ≤ suc k → pairListed (m + k) n peer (at t n .link) t ≡ pairListed k n peer (at t n .link) t
   unfolding SamePair
   pair-enough k zero n peer j l = rw zero-add
   pair-enough k (suc m) n peer j l = rw suc-add (one-more-pair (m + k) n peer j (omega arith) ∙ pair-enough k m n peer j l)
 
-  pub inside-enough : (k m n d : ℕ) → T (present t n) → DefectInside t n d → holds t n ≤ suc k → insideListed (m + k) n d t ≡ insideListed k n d t
+  pub inside-enough : (k m n d : ℕ) → T (present t n) → DefectInside t n d → nodesInside t n ≤ suc k → insideListed (m + k) n d t ≡ insideListed k n d t
   unfolding SameInside
   inside-enough k zero n d p h l = rw zero-add
   inside-enough k (suc m) n d p h l = rw suc-add (one-more-inside (m + k) n d p h (omega arith) ∙ inside-enough k m n d p h l)

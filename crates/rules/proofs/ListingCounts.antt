@@ -1,9 +1,9 @@
 -- The pairs listed inside a node name every defect inside it but the touched one, once each; those listed of a pair name every
 -- defect inside its two nodes, once each.
-use mathlib.Core.Path.{_≡_, refl, sym, ap, _∙_}
+use mathlib.Core.Path.{_≡_, refl, ap, _∙_}
 use mathlib.Core.Logic.{_≢_}
 use mathlib.Core.List.{List, [], _∷_, _++_}
-use Prim.Native.Nat.{ℕ, zero, suc, _+_, _≤_, _<_}
+use Prim.Native.Nat.{ℕ, suc, _+_, _≤_, _<_}
 use native.Mathlib.Omega.{arith}
 use lib.Dec.{T}
 use Rattle.slot.specs.Slot.{Link}
@@ -16,8 +16,8 @@ use Rattle.rules.specs.Listing.{pairEntry, virtualEntry, pairListed, lev
 use Rattle.rules.specs.FactsOfBlossoms.{DefectInside}
 use Rattle.rules.specs.Facts.{Rest}
 use Rattle.rules.specs.Named.{namedBy, namedIn, one, times}
-use Rattle.rules.proofs.Counts.{times-append, total}
-use Rattle.rules.proofs.InsideCounts.{held, holds, held-above, held-defect}
+use Rattle.rules.proofs.CountLaws.{times-append, total}
+use Rattle.rules.proofs.InsideCounts.{held, nodesInside, held-above, held-defect}
 use Rattle.rules.proofs.NestedCalls.{Joined, afterOf, on-every-pair, on-every-node}
 use Rattle.rules.proofs.ListingLaws.{insideListed, inside-defect-listed, inside-blossom-listed, pair-listed, last-level-listed, level-listed, ring-end-listed, ring-pair-listed}
 
@@ -94,12 +94,12 @@ module _ (t : Table) (full : Full t) (rest : Rest t) (e : ℕ) (defect : e < t .
       let y = ringListed k d (next t (next t n)) t in
       omega (arith, p, q, ap (often e) (ring-pair-listed t k d n h), often-append e x y)
 
-  pub pair-names-all : (k n peer : ℕ) → Joined t n peer → holds t n + holds t peer ≤ suc k → often e (pairListed k n peer (at t n .link) t) ≡ held t e n + held t e peer
+  pub pair-names-all : (k n peer : ℕ) → Joined t n peer → nodesInside t n + nodesInside t peer ≤ suc k → often e (pairListed k n peer (at t n .link) t) ≡ held t e n + held t e peer
   unfolding PairNames
   pair-names-all =
       on-every-pair t full rest PairNames InsideNames LevelsName RingNames defect-names blossom-names pair-names last-names level-names end-names two-names
 
-  pub inside-names-all : (k n d : ℕ) → T (present t n) → DefectInside t n d → holds t n ≤ suc k → often e (insideListed k n d t) + one e d ≡ held t e n
+  pub inside-names-all : (k n d : ℕ) → T (present t n) → DefectInside t n d → nodesInside t n ≤ suc k → often e (insideListed k n d t) + one e d ≡ held t e n
   unfolding InsideNames
   inside-names-all =
       on-every-node t full rest PairNames InsideNames LevelsName RingNames defect-names blossom-names pair-names last-names level-names end-names two-names

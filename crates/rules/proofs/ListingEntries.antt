@@ -1,11 +1,9 @@
 -- Every record that a call of the listing leaves is the entry of a link of the table, and names present defects.
-use mathlib.Core.Path.{_≡_, refl, sym, ap, _∙_}
-use mathlib.Core.Logic.{_≢_, _⊎_, inl, inr}
+use mathlib.Core.Path.{_≡_, refl}
+use mathlib.Core.Logic.{_≢_, inl, inr}
 use mathlib.Core.List.{List, [], _∷_, _++_}
-use Prim.Native.Nat.{ℕ, zero, suc, _+_, _≤_, _<_}
-use native.Mathlib.Omega.{arith}
+use Prim.Native.Nat.{ℕ, suc, _+_, _≤_, _<_}
 use lib.Dec.{T, lt→ltb}
-use Rattle.slot.specs.Slot.{Link}
 use Rattle.table.specs.Table.{Table, at}
 use Rattle.table.proofs.Laws.{Full}
 use Rattle.nodes.specs.Nodes.{isDefect, present, inner}
@@ -19,7 +17,7 @@ use Rattle.rules.specs.Named.{namedBy, namedIn, isPresentDefect, Entry, 
 use Rattle.rules.proofs.Reflect.{→and}
 use Rattle.rules.proofs.Members.{in-append→}
 use Rattle.rules.proofs.InsideLaws.{inside-present}
-use Rattle.rules.proofs.InsideCounts.{holds}
+use Rattle.rules.proofs.InsideCounts.{nodesInside}
 use Rattle.rules.proofs.NestedCalls.{Joined, afterOf, on-every-pair, on-every-node}
 use Rattle.rules.proofs.ListingLaws.{insideListed, inside-defect-listed, inside-blossom-listed, pair-listed, last-level-listed, level-listed, ring-end-listed, ring-pair-listed}
 
@@ -111,12 +109,12 @@ module _ (t : Table) (full : Full t) (rest : Rest t) where
   two-entries k d n cs h p q =
       rw (ring-pair-listed t k d n h) (join-entries (pairListed k n (next t n) (at t n .link) t) (ringListed k d (next t (next t n)) t) p q)
 
-  pub pair-entries-all : (k n peer : ℕ) → Joined t n peer → holds t n + holds t peer ≤ suc k → Each (Entry t) (pairListed k n peer (at t n .link) t)
+  pub pair-entries-all : (k n peer : ℕ) → Joined t n peer → nodesInside t n + nodesInside t peer ≤ suc k → Each (Entry t) (pairListed k n peer (at t n .link) t)
   unfolding PairEntries Entries
   pair-entries-all =
       on-every-pair t full rest PairEntries InsideEntries LevelsEntries RingEntries defect-entries blossom-entries pair-entries last-entries level-entries end-entries two-entries
 
-  pub inside-entries-all : (k n d : ℕ) → T (present t n) → DefectInside t n d → holds t n ≤ suc k → Each (Entry t) (insideListed k n d t)
+  pub inside-entries-all : (k n d : ℕ) → T (present t n) → DefectInside t n d → nodesInside t n ≤ suc k → Each (Entry t) (insideListed k n d t)
   unfolding InsideEntries Entries
   inside-entries-all =
       on-every-node t full rest PairEntries InsideEntries LevelsEntries RingEntries defect-entries blossom-entries pair-entries last-entries level-entries end-entries two-entries

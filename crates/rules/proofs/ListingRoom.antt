@@ -1,11 +1,10 @@
 -- The bytes of a listing: no more than 16 for each present defect; and what a run of records leaves in lent bytes.
-use mathlib.Core.Path.{_≡_, refl, sym, ap, _∙_}
+use mathlib.Core.Path.{_≡_, refl, ap, _∙_}
 use mathlib.Core.Logic.{_⊎_, inl, inr}
-use mathlib.Core.Bool.{Bool, true, false, not, _&&_}
+use mathlib.Core.Bool.{Bool, true, false, _&&_}
 use mathlib.Core.List.{List, [], _∷_, _++_}
 use Prim.Native.Nat.{ℕ, zero, suc, _+_, _*_, _≤_, _<_}
 use native.Mathlib.Omega.{arith}
-use lib.Dec.{T}
 use lib.ListN.{length, take, drop, length-append}
 use Rattle.lists.specs.Choice.{pick}
 use Rattle.slot.specs.Slot.{Link}
@@ -22,10 +21,10 @@ use Rattle.rules.specs.Listing.{pairEntry, virtualEntry, listing}
 use Rattle.rules.specs.Refusals.{defectAt, defectsBelow, presentDefects}
 use Rattle.rules.specs.Chain.{_∈_}
 use Rattle.rules.specs.Facts.{Sound}
-use Rattle.rules.specs.Named.{namedBy, namedIn, times, isPresentDefect, isListed, Entry, Each}
+use Rattle.rules.specs.Named.{namedBy, namedIn, times, isPresentDefect, Entry, Each}
 use Rattle.rules.proofs.Reflect.{and→}
 use Rattle.rules.proofs.Past.{present-below}
-use Rattle.rules.proofs.Counts.{sumBelow, sum-most, length-counted}
+use Rattle.rules.proofs.CountLaws.{sumBelow, sum-most, length-counted}
 use Rattle.rules.proofs.ListingEntries.{each-names}
 use Rattle.rules.proofs.ListedOnce.{listing-entries, listing-count}
 

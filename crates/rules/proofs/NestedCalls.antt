@@ -1,8 +1,8 @@
 -- The calls that the listing makes: what holds of the calls with nothing below them, and of a call where it holds of those below
 -- it, holds of every call whose budget is enough. A budget is enough where it counts the nodes that are still to be passed, and
 -- those are inside the node that is opened: no call passes a node that an earlier one on its way has passed.
-use mathlib.Core.Path.{_≡_, refl, sym, ap, _∙_}
-use mathlib.Core.Logic.{_≢_, _⊎_, inl, inr}
+use mathlib.Core.Path.{_≡_, refl, ap}
+use mathlib.Core.Logic.{_≢_, inl, inr}
 use mathlib.Core.List.{List, [], _∷_}
 use Prim.Native.Nat.{ℕ, zero, suc, _+_, _≤_, _<_}
 use native.Mathlib.Decide.{decLt}
@@ -13,17 +13,17 @@ use Rattle.table.proofs.Laws.{Full}
 use Rattle.nodes.specs.Nodes.{present, inner}
 use Rattle.rules.specs.Slots.{up, next}
 use Rattle.rules.specs.Chain.{_∈_}
-use Rattle.rules.specs.FactsOfBlossoms.{PresentBlossom, InnerChild, Inside, DefectInside}
+use Rattle.rules.specs.FactsOfBlossoms.{Inside, DefectInside}
 use Rattle.rules.specs.Facts.{Rest}
 use Rattle.rules.proofs.Reflect.{same-or-not}
 use Rattle.rules.proofs.ReflectSlots.{inner-present}
-use Rattle.rules.proofs.Past.{present-below, inner-below}
+use Rattle.rules.proofs.Past.{present-below}
 use Rattle.rules.proofs.RingLaws.{inner-next}
 use Rattle.rules.proofs.InsideLaws.{inside-case, inside-present}
 use Rattle.rules.proofs.TouchLaws.{peer-touch-ring}
-use Rattle.rules.proofs.Counts.{total}
-use Rattle.rules.proofs.RestOfRing.{Path, TwoByTwo, After, after-in-ring}
-use Rattle.rules.proofs.InsideCounts.{holds, holds-some, holds-less, holds-above, defect-inside-alone}
+use Rattle.rules.proofs.CountLaws.{total}
+use Rattle.rules.proofs.RestOfRing.{Way, TwoByTwo, after-in-ring}
+use Rattle.rules.proofs.InsideCounts.{nodesInside, nodes-some, nodes-less, nodes-above, defect-inside-alone}
 
 -- n's link joins it to another node: a matched pair, or a node of a ring and the next one
 pub record Joined (t : Table) (n peer : ℕ) : Type 0 where
@@ -61,6 +61,8 @@ module _ (t : Table) (full : Full t) (rest : Rest t) where
   abbrev pub afterOf : (d : ℕ) → T (inner t d) → List ℕ
   afterOf d i = after-in-ring t full rest d i .list
 
+  -- what is to hold of a call with the budget k: of the pair of n and peer; of what is inside n, touched at d; of the levels from d
+  -- up to b; of the ring nodes from n up to d, which are a list
   module _
       (Pair : ℕ → ℕ → ℕ → Type 0)
       (Inner : ℕ → ℕ → ℕ → Type 0)
@@ -75,24 +77,24 @@ module _ (t : Table) (full : Full t) (rest : Rest t) where
       (ring-pair : (k d n : ℕ) (cs : List ℕ) → n ≢ d → Pair k n (next t n) → Ring k d (next t (next t n)) cs → Ring (suc k) d n (n ∷ (next t n ∷ cs))) where
     -- what holds of every call with the budget k, if it is enough
     record Reached (k : ℕ) : Type 0 where
-      on-pair : (n peer : ℕ) → Joined t n peer → holds t n + holds t peer ≤ suc k → Pair k n peer
-      on-levels : (b d : ℕ) → Within t b d → holds t b ≤ k + holds t d → Levels k b d
-      on-ring : (d n : ℕ) (cs : List ℕ) → Path (next t) n cs d → TwoByTwo cs → ((c : ℕ) → c ∈ cs → T (inner t c) × (c ≢ d)) → total (holds t) cs ≤ k → Ring k d n cs
+      on-pair : (n peer : ℕ) → Joined t n peer → nodesInside t n + nodesInside t peer ≤ suc k → Pair k n peer
+      on-levels : (b d : ℕ) → Within t b d → nodesInside t b ≤ k + nodesInside t d → Levels k b d
+      on-ring : (d n : ℕ) (cs : List ℕ) → Way (next t) n cs d → TwoByTwo cs → ((c : ℕ) → c ∈ cs → T (inner t c) × (c ≢ d)) → total (nodesInside t) cs ≤ k → Ring k d n cs
 
-    some-held : (n : ℕ) → T (present t n) → 1 ≤ holds t n
-    some-held n p = holds-some t full rest n (present-below t full n p)
+    some-held : (n : ℕ) → T (present t n) → 1 ≤ nodesInside t n
+    some-held n p = nodes-some t full rest n (present-below t full n p)
 
-    inner-held : (n : ℕ) → T (inner t n) → 1 ≤ holds t n
+    inner-held : (n : ℕ) → T (inner t n) → 1 ≤ nodesInside t n
     inner-held n i = some-held n (inner-present (at t n .state) i)
 
     -- the level above holds more
-    level-more : (b d : ℕ) (w : Within t b d) → suc (holds t d + total (holds t) (afterOf d (w .is-inner))) ≤ holds t b
-    level-more b d w = omega (arith, holds-above t full rest d (w .is-inner), holds-less t full rest (up t d) b (w .around))
+    level-more : (b d : ℕ) (w : Within t b d) → suc (nodesInside t d + total (nodesInside t) (afterOf d (w .is-inner))) ≤ nodesInside t b
+    level-more b d w = omega (arith, nodes-above t full rest d (w .is-inner), nodes-less t full rest (up t d) b (w .around))
 
-    on-inner : (k n d : ℕ) → Reached k → T (present t n) → DefectInside t n d → holds t n ≤ suc k → Inner k n d
+    on-inner : (k n d : ℕ) → Reached k → T (present t n) → DefectInside t n d → nodesInside t n ≤ suc k → Inner k n d
     on-inner k n d r p h l = go (decLt n (t .begin))
       where
-        enough : holds t n ≤ k + holds t d
+        enough : nodesInside t n ≤ k + nodesInside t d
         enough = omega (arith, some-held d (inside-present t full rest n d p (h .inside)))
 
         go : Dec (n < t .begin) → Inner k n d
@@ -107,38 +109,38 @@ module _ (t : Table) (full : Full t) (rest : Rest t) where
           on-ring = go;
         }
       where
-        go : (d n : ℕ) (cs : List ℕ) → Path (next t) n cs d → TwoByTwo cs → ((c : ℕ) → c ∈ cs → T (inner t c) × (c ≢ d)) → total (holds t) cs ≤ 0 → Ring 0 d n cs
+        go : (d n : ℕ) (cs : List ℕ) → Way (next t) n cs d → TwoByTwo cs → ((c : ℕ) → c ∈ cs → T (inner t c) × (c ≢ d)) → total (nodesInside t) cs ≤ 0 → Ring 0 d n cs
         go d n [] p e m l = rw p (ring-end 0 d)
         go d n (c ∷ cs) p e m l = absurd (omega (arith, inner-held c (m c (inl refl) .0)))
 
     module _ (k : ℕ) (r : Reached k) where
-      pair-reached : (n peer : ℕ) → Joined t n peer → holds t n + holds t peer ≤ suc (suc k) → Pair (suc k) n peer
+      pair-reached : (n peer : ℕ) → Joined t n peer → nodesInside t n + nodesInside t peer ≤ suc (suc k) → Pair (suc k) n peer
       pair-reached n peer j l =
           let x = some-held n (j .here) in
           let y = some-held peer (j .there) in
           pair k n peer j (on-inner k n (at t n .link .touch) r (j .here) (j .touch) (omega arith)) (on-inner k peer (at t n .link .peerTouch) r (j .there) (j .peer-touch) (omega arith))
 
-      after-reached : (b d : ℕ) (w : Within t b d) → holds t b ≤ suc k + holds t d → Ring k d (next t d) (afterOf d (w .is-inner))
+      after-reached : (b d : ℕ) (w : Within t b d) → nodesInside t b ≤ suc k + nodesInside t d → Ring k d (next t d) (afterOf d (w .is-inner))
       after-reached b d w l =
           let a = after-in-ring t full rest d (w .is-inner) in
-          r .on-ring d (next t d) (a .list) (a .path) (a .even) (λ c m. (a .members c m .0, a .others c m)) (omega (arith, level-more b d w))
+          r .on-ring d (next t d) (a .list) (a .way) (a .even) (λ c m. (a .members c m .0, a .others c m)) (omega (arith, level-more b d w))
 
-      levels-reached : (b d : ℕ) → Within t b d → holds t b ≤ suc k + holds t d → Levels (suc k) b d
+      levels-reached : (b d : ℕ) → Within t b d → nodesInside t b ≤ suc k + nodesInside t d → Levels (suc k) b d
       levels-reached b d w l =
           elim (same-or-not (up t d) b) [
             | inl e ↦ last-level k b d (w .is-inner) e (after-reached b d w l)
             | inr n ↦
                 level k b d (w .is-inner) n (after-reached b d w l)
-                (r .on-levels b (up t d) (next-level b d w n) (omega (arith, holds-above t full rest d (w .is-inner))))
+                (r .on-levels b (up t d) (next-level b d w n) (omega (arith, nodes-above t full rest d (w .is-inner))))
           ]
 
-      ring-reached : (d n : ℕ) (cs : List ℕ) → Path (next t) n cs d → TwoByTwo cs → ((c : ℕ) → c ∈ cs → T (inner t c) × (c ≢ d)) → total (holds t) cs ≤ suc k → Ring (suc k) d n cs
+      ring-reached : (d n : ℕ) (cs : List ℕ) → Way (next t) n cs d → TwoByTwo cs → ((c : ℕ) → c ∈ cs → T (inner t c) × (c ≢ d)) → total (nodesInside t) cs ≤ suc k → Ring (suc k) d n cs
       ring-reached d n [] p e m l = rw p (ring-end (suc k) d)
       ring-reached d n (a ∷ []) p e m l = absurd e
       ring-reached d n (a ∷ (b ∷ cs)) p e m l =
           let i = m a (inl refl) .0 in
           let x = inner-held a i in
-          let one = r .on-pair a (next t a) (ring-joined a i) (omega (arith, ap (holds t) (p .1 .0))) in
+          let one = r .on-pair a (next t a) (ring-joined a i) (omega (arith, ap (nodesInside t) (p .1 .0))) in
           let others = r .on-ring d (next t b) cs (p .1 .1) e (λ c w. m c (inr (inr w))) (omega arith) in
           rw (p .0, ← p .1 .0) (ring-pair k d a cs (m a (inl refl) .1) one (rw (p .1 .0) others))
 
@@ -149,8 +151,8 @@ module _ (t : Table) (full : Full t) (rest : Rest t) where
     reached zero = reached-none
     reached (suc k) = reached-more k (reached k)
 
-    pub on-every-pair : (k n peer : ℕ) → Joined t n peer → holds t n + holds t peer ≤ suc k → Pair k n peer
+    pub on-every-pair : (k n peer : ℕ) → Joined t n peer → nodesInside t n + nodesInside t peer ≤ suc k → Pair k n peer
     on-every-pair k = reached k .on-pair
 
-    pub on-every-node : (k n d : ℕ) → T (present t n) → DefectInside t n d → holds t n ≤ suc k → Inner k n d
+    pub on-every-node : (k n d : ℕ) → T (present t n) → DefectInside t n d → nodesInside t n ≤ suc k → Inner k n d
     on-every-node k n d = on-inner k n d (reached k)

@@ -3,7 +3,7 @@
 use mathlib.Core.Path.{_≡_, refl, sym, ap, _∙_}
 use mathlib.Core.Logic.{_≢_, inl, inr}
 use mathlib.Core.List.{List, [], _∷_, _++_}
-use Prim.Native.Nat.{ℕ, zero, suc, _+_, _%_}
+use Prim.Native.Nat.{ℕ, _+_, _%_}
 use native.Mathlib.Omega.{arith}
 use lib.Dec.{T}
 use lib.ListN.{length, length-append}
@@ -13,23 +13,23 @@ use Rattle.table.proofs.Laws.{Full}
 use Rattle.nodes.specs.Nodes.{inner}
 use Rattle.rules.specs.Slots.{up, next}
 use Rattle.rules.specs.Sound.{nextInRing}
-use Rattle.rules.specs.Chain.{_∈_, NoDup, Chain}
+use Rattle.rules.specs.Chain.{_∈_, Chain}
 use Rattle.rules.specs.FactsOfBlossoms.{InnerChild, Ring}
 use Rattle.rules.specs.Facts.{Rest}
 use Rattle.rules.proofs.Reflect.{same-or-not}
 use Rattle.rules.proofs.Members.{Split, in-split, split-length, in-left, in-right, in-append→, nodup-around}
 use Rattle.rules.proofs.Chains.{chain-split}
 use Rattle.rules.proofs.RingLaws.{ring-goes-on, ring-comes-back, ring-once, ring-around, in-ring}
-use Rattle.rules.proofs.Counts.{total, total-append}
+use Rattle.rules.proofs.CountLaws.{total, total-append}
 
 -- from a along `next` through a list to e
-abbrev pub Path : (ℕ → ℕ) → ℕ → List ℕ → ℕ → Type 0
-Path next a [] e = a ≡ e
-Path next a (c ∷ cs) e = (a ≡ c) × Path next (next c) cs e
+abbrev pub Way : (ℕ → ℕ) → ℕ → List ℕ → ℕ → Type 0
+Way next a [] e = a ≡ e
+Way next a (c ∷ cs) e = (a ≡ c) × Way next (next c) cs e
 
-path-join : (next : ℕ → ℕ) (a : ℕ) (xs ys : List ℕ) (m e : ℕ) → Path next a xs m → Path next m ys e → Path next a (xs ++ ys) e
-path-join next a [] ys m e p q = rw p q
-path-join next a (x ∷ xs) ys m e p q = (p .0, path-join next (next x) xs ys m e (p .1) q)
+way-join : (next : ℕ → ℕ) (a : ℕ) (xs ys : List ℕ) (m e : ℕ) → Way next a xs m → Way next m ys e → Way next a (xs ++ ys) e
+way-join next a [] ys m e p q = rw p q
+way-join next a (x ∷ xs) ys m e p q = (p .0, way-join next (next x) xs ys m e (p .1) q)
 
 -- a list two by two
 abbrev pub TwoByTwo : List ℕ → Type 0
@@ -44,19 +44,19 @@ two-by-two (x ∷ (y ∷ r)) e = two-by-two r (omega arith)
 
 module _ (t : Table) (first : ℕ) where
   -- from a node to the end of the ring's list the way leads back to the first
-  path-back : (j : ℕ) (cs : List ℕ) → Chain (nextInRing t first) (nextInRing t first j) cs → ((x : ℕ) → x ∈ (j ∷ cs) → next t x ≢ none) → Path (next t) (next t j) cs first
-  path-back j [] p h =
+  way-back : (j : ℕ) (cs : List ℕ) → Chain (nextInRing t first) (nextInRing t first j) cs → ((x : ℕ) → x ∈ (j ∷ cs) → next t x ≢ none) → Way (next t) (next t j) cs first
+  way-back j [] p h =
       elim (same-or-not (next t j) first) [ inl e ↦ e | inr d ↦ absurd (h j (inl refl) (sym (ring-goes-on t first j d) ∙ p)) ]
-  path-back j (c ∷ cs) p h =
+  way-back j (c ∷ cs) p h =
       elim (same-or-not (next t j) first) [
         | inl e ↦ absurd (p .1 (ring-comes-back t first j e))
-        | inr d ↦ (sym (ring-goes-on t first j d) ∙ p .0, path-back c cs (p .2) (λ x m. h x (inr m)))
+        | inr d ↦ (sym (ring-goes-on t first j d) ∙ p .0, way-back c cs (p .2) (λ x m. h x (inr m)))
       ]
 
   -- .. and from the first to a node
-  path-to : (a : ℕ) (xs : List ℕ) (d : ℕ) (ys : List ℕ) → Chain (nextInRing t first) a (xs ++ (d ∷ ys)) → Path (next t) a xs d
-  path-to a [] d ys p = p .0
-  path-to a (x ∷ xs) d ys p = (p .0, rw (goes-on xs (p .2)) at (path-to (nextInRing t first x) xs d ys (p .2)))
+  way-to : (a : ℕ) (xs : List ℕ) (d : ℕ) (ys : List ℕ) → Chain (nextInRing t first) a (xs ++ (d ∷ ys)) → Way (next t) a xs d
+  way-to a [] d ys p = p .0
+  way-to a (x ∷ xs) d ys p = (p .0, rw (goes-on xs (p .2)) at (way-to (nextInRing t first x) xs d ys (p .2)))
     where
       some : (zs : List ℕ) → Chain (nextInRing t first) (nextInRing t first x) (zs ++ (d ∷ ys)) → nextInRing t first x ≢ none
       some [] q = q .1
@@ -69,7 +69,7 @@ module _ (t : Table) (first : ℕ) where
 -- the ring nodes after d, in order
 pub record After (t : Table) (d : ℕ) (ring : List ℕ) : Type 0 where
   pub list : List ℕ
-  pub path : Path (next t) (next t d) list d
+  pub way : Way (next t) (next t d) list d
   pub even : TwoByTwo list
   pub members : (c : ℕ) → c ∈ list → InnerChild t (up t d) c
   pub others : (c : ℕ) → c ∈ list → c ≢ d
@@ -92,14 +92,14 @@ module _ (t : Table) (full : Full t) (rest : Rest t) where
           let onward = chain-split (nextInRing t first) first (s .before) d (s .after) chain in
           let known : (x : ℕ) → x ∈ (s .before ++ (d ∷ s .after)) → x ∈ r .list = λ x m. rw (s .split) m in
           let moved : (x : ℕ) → x ∈ (s .after ++ s .before) → x ∈ (s .before ++ s .after) =
-                λ x m. elim (in-append→ (s .after) (s .before) x m) [ inl a ↦ in-right (s .before) (s .after) x a | inr b ↦ in-left (s .before) (s .after) x b ] in
+          λ x m. elim (in-append→ (s .after) (s .before) x m) [ inl a ↦ in-right (s .before) (s .after) x a | inr b ↦ in-left (s .before) (s .after) x b ] in
           let kept : (x : ℕ) → x ∈ (s .before ++ s .after) → x ∈ r .list =
-                λ x m. known x (elim (in-append→ (s .before) (s .after) x m) [ inl a ↦ in-left (s .before) (d ∷ s .after) x a | inr b ↦ in-right (s .before) (d ∷ s .after) x (inr b) ]) in
+          λ x m. known x (elim (in-append→ (s .before) (s .after) x m) [ inl a ↦ in-left (s .before) (d ∷ s .after) x a | inr b ↦ in-right (s .before) (d ∷ s .after) x (inr b) ]) in
           record {
             list = s .after ++ s .before;
-            path = path-join (next t) (next t d) (s .after) (s .before) first d
-                (path-back t first d (s .after) (onward .2) (λ x m. r .closes x (known x (in-right (s .before) (d ∷ s .after) x m))))
-                (path-to t first first (s .before) d (s .after) chain);
+            way = way-join (next t) (next t d) (s .after) (s .before) first d
+                (way-back t first d (s .after) (onward .2) (λ x m. r .closes x (known x (in-right (s .before) (d ∷ s .after) x m))))
+                (way-to t first first (s .before) d (s .after) chain);
             even = two-by-two (s .after ++ s .before)
                 (omega (arith, r .odd, split-length d (r .list) s, length-append (s .before) (s .after), length-append (s .after) (s .before)));
             members = λ c m. r .exact c .0 (kept c (moved c m));

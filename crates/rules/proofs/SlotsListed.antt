@@ -1,32 +1,28 @@
 -- "Over outer slots ascending, matched ones only; a pair at its smaller number": what the listing says at each slot of a sound table.
-use mathlib.Core.Path.{_≡_, refl, sym, ap, _∙_}
-use mathlib.Core.Logic.{_≢_, _⊎_, inl, inr}
-use mathlib.Core.Bool.{not}
-use mathlib.Core.List.{List, [], _∷_, _++_}
-use Prim.Native.Nat.{ℕ, zero, suc, _+_, _≤_, _<_}
+use mathlib.Core.Path.{_≡_, sym, _∙_}
+use mathlib.Core.Logic.{_≢_, inl, inr}
+use mathlib.Core.List.{[], _∷_, _++_}
+use Prim.Native.Nat.{ℕ, _+_, _≤_, _<_}
 use native.Mathlib.Decide.{decLt}
 use native.Mathlib.Omega.{arith}
 use lib.Dec.{T, T-not, ltb, ltb→lt, lt→ltb}
 use Rattle.slot.specs.declared.state.State.the-variants as S
-use Rattle.slot.specs.Number.{none}
 use Rattle.table.specs.Table.{Table, at}
 use Rattle.table.proofs.Laws.{Full}
-use Rattle.nodes.specs.Nodes.{present, outer}
+use Rattle.nodes.specs.Nodes.{outer}
 use Rattle.nodes.specs.declared.place.Place.{Place}
-use Rattle.nodes.specs.declared.place.Place.the-variants as P
 use Rattle.nodes.specs.Place.{place}
-use Rattle.record.specs.declared.answer.Record.{Record}
 use Rattle.rules.specs.Act.{choose}
-use Rattle.rules.specs.Slots.{up, next}
-use Rattle.rules.specs.Listing.{virtualEntry, pairListed, levelsListed, matchedListed, slotListed}
+use Rattle.rules.specs.Slots.{next}
+use Rattle.rules.specs.Listing.{virtualEntry, pairListed, matchedListed, slotListed}
 use Rattle.rules.specs.FactsOfNodes.{Virtual, Paired, Kind, free-node, virtual-node, paired-node, root-node, minus-node, plus-node}
 use Rattle.rules.specs.FactsOfBlossoms.{DefectInside}
-use Rattle.rules.specs.Facts.{Core, Rest, Sound}
+use Rattle.rules.specs.Facts.{Sound}
 use Rattle.rules.proofs.Reflect.{test-true, test-false, test-case}
-use Rattle.rules.proofs.ReflectSlots.{stay-grow, stay-shrink, outer-present}
+use Rattle.rules.proofs.ReflectSlots.{stay-grow, stay-shrink}
 use Rattle.rules.proofs.KindLaws.{kind-outer, kindPlace, kind-place}
 use Rattle.rules.proofs.TouchLaws.{peer-touch-paired}
-use Rattle.rules.proofs.InsideCounts.{holds, holds-two}
+use Rattle.rules.proofs.InsideCounts.{nodesInside, nodes-two}
 use Rattle.rules.proofs.NestedCalls.{Joined}
 use Rattle.rules.proofs.ListingLaws.{insideListed}
 
@@ -92,6 +88,6 @@ module _ (t : Table) (full : Full t) (sound : Sound t) where
   virtual-touch n v = sound .rest .touches n .touch (v .has-touch)
 
   -- a budget of 256 is enough
-  pub matched-fits : (n peer : ℕ) → Paired t n peer → holds t n + holds t peer ≤ 257
+  pub matched-fits : (n peer : ℕ) → Paired t n peer → nodesInside t n + nodesInside t peer ≤ 257
   matched-fits n peer p =
-      omega (arith, holds-two t full (sound .rest) n peer (rw (p .here .stays) tt) (rw (p .there .stays) tt) (λ e. p .another (sym e)))
+      omega (arith, nodes-two t full (sound .rest) n peer (rw (p .here .stays) tt) (rw (p .there .stays) tt) (λ e. p .another (sym e)))

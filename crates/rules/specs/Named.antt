@@ -31,10 +31,11 @@ abbrev pub namedIn : List Record → List ℕ
 namedIn [] = []
 namedIn (r ∷ rs) = namedBy r ++ namedIn rs
 
--- how often a number stands in a list: lists that differ in order alone have the same counts
+-- 1 where the numbers are one
 unfoldable pub one : ℕ → ℕ → ℕ
 one a x = pick (eqb a x) 1 0
 
+-- how often a number stands in a list: lists that differ in order alone have the same counts
 abbrev pub times : ℕ → List ℕ → ℕ
 times a [] = 0
 times a (x ∷ xs) = one a x + times a xs
@@ -56,13 +57,14 @@ AllMatched t = (m : ℕ) → T (outer t m) → at t m .state ≡ S.Stay
 
 -- ---- what an entry is
 
--- the entry of a link that some node of the table has; it names present defects
+-- the record is the entry of a link that a node of the table has, through numbers and all, and names present defects
 pub record Entry (t : Table) (r : Record) : Type 0 where
   pub owner : ℕ
   pub there : T (present t owner)
   pub link : (r ≡ pairEntry (at t owner .link)) ⊎ (r ≡ virtualEntry (at t owner .link))
   pub names : (n : ℕ) → n ∈ namedBy r → T (isPresentDefect t n)
 
+-- of every record in a list
 abbrev pub Each : (Record → Type 0) → List Record → Type 0
 Each P [] = Unit {0}
 Each P (r ∷ rs) = P r × Each P rs

@@ -5,7 +5,6 @@ use mathlib.Core.List.{List, [], _∷_, _++_}
 use Prim.Native.Nat.{ℕ, zero, suc, _+_, _≤_, _<_}
 use native.Mathlib.Omega.{arith}
 use lib.ListN.{length}
-use Rattle.lists.specs.Choice.{pick}
 use Rattle.rules.specs.Chain.{_∈_, NoDup}
 use Rattle.rules.specs.Named.{one, times}
 use Rattle.rules.proofs.Reflect.{eqb-yes, eqb-no, same-or-not}
