@@ -47,3 +47,9 @@ pub mod Resetting
 pub mod TreesInPairs
 pub mod Answering
 pub mod KeptWithoutBlossoms
+pub mod Within
+pub mod MatchingWithin
+pub mod ReadingWithin
+pub mod BlossomWithin
+pub mod ExpansionWithin
+pub mod ConflictWithin
