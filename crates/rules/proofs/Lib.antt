@@ -53,3 +53,7 @@ pub mod ReadingWithin
 pub mod BlossomWithin
 pub mod ExpansionWithin
 pub mod ConflictWithin
+pub mod ConcernedNodes
+pub mod NamedNodes
+pub mod Areas
+pub mod RequestsWithin
