@@ -36,6 +36,7 @@ use Rattle.rules.proofs.Loading.{unloaded→}
 use Rattle.rules.proofs.Within.{In, Closed}
 use Rattle.rules.proofs.ConcernedNodes.{seen-loaded, concerned→, concerned-itself, concerned-held, concerned-outer, Held, AllHeld}
 use Rattle.rules.proofs.NamedNodes.{named-outer}
+use Rattle.rules.proofs.Orders.{ApartIn}
 
 -- past the last slot, as at none, there is nothing to read or write
 pub data InArea (r : Request) (t : Table) (j : ℕ) : Type 0 where
@@ -66,7 +67,7 @@ in-area-or-not r t j =
 
 -- ---- the nodes of a list, each by itself
 
-concerned-by : (ns : List ℕ) (t : Table) (m : ℕ) → T (concernedOf ns t m) → (n : ℕ) × (n ∈ ns) × T (concernedAt (place (seen t n)) t n m)
+pub concerned-by : (ns : List ℕ) (t : Table) (m : ℕ) → T (concernedOf ns t m) → (n : ℕ) × (n ∈ ns) × T (concernedAt (place (seen t n)) t n m)
 unfolding concernedOf
 concerned-by [] t m h = absurd h
 concerned-by (n ∷ ns) t m h = go (or→ (concernedAt (place (seen t n)) t n m) (concernedOf ns t m) h) (concerned-by ns t m)
@@ -78,7 +79,7 @@ concerned-by (n ∷ ns) t m h = go (or→ (concernedAt (place (seen t n)) t n m)
     go (inl c) ih = (n, inl refl, c)
     go (inr c) ih = let r = ih c in (r .0, inr (r .1), r .2)
 
-by-concerned : (ns : List ℕ) (t : Table) (m n : ℕ) → n ∈ ns → T (concernedAt (place (seen t n)) t n m) → T (concernedOf ns t m)
+pub by-concerned : (ns : List ℕ) (t : Table) (m n : ℕ) → n ∈ ns → T (concernedAt (place (seen t n)) t n m) → T (concernedOf ns t m)
 unfolding concernedOf
 by-concerned [] t m n i c = absurd i
 by-concerned (k ∷ ns) t m n (inl e) c = →or (concernedAt (place (seen t k)) t k m) (concernedOf ns t m) (inl (rw e at c))
@@ -192,10 +193,6 @@ module _ (r : Request) (t : Table) (room : ℕ) (w : Whole t) (ok : verdict r t 
       pointers j (fresh m e) = empty-in (at t j) (rw e (w .rest .bare (t .begin + t .blossoms) (fresh-empty t w)))
 
 -- ---- two areas
-
--- r and q concern no common node, and do not both make a blossom
-abbrev pub ApartIn : Table → Request → Request → Type 0
-ApartIn t r q = ((j : ℕ) → ¬ (T (concerns r t j) × T (concerns q t j))) × (¬ (T (isMaking r t) × T (isMaking q t)))
 
 pub apart-back : (t : Table) (r q : Request) → ApartIn t r q → ApartIn t q r
 apart-back t r q a = (λ j h. a .0 j (h .1, h .0), λ h. a .1 (h .1, h .0))

@@ -47,6 +47,7 @@ pub mod Resetting
 pub mod TreesInPairs
 pub mod Answering
 pub mod KeptWithoutBlossoms
+pub mod Orders
 pub mod Within
 pub mod MatchingWithin
 pub mod ReadingWithin
@@ -57,3 +58,7 @@ pub mod ConcernedNodes
 pub mod NamedNodes
 pub mod Areas
 pub mod RequestsWithin
+pub mod TwoRequests
+pub mod StillApart
+pub mod Reordering
+pub mod AnyOrder

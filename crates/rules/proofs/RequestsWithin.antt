@@ -37,15 +37,8 @@ use Rattle.rules.proofs.ReadingWithin.{seen-alike, defect-inside-alike,
 use Rattle.rules.proofs.ConflictWithin.{conflict-acted, virtual-acts}
 use Rattle.rules.proofs.ExpansionWithin.{expansion-acted}
 use Rattle.rules.proofs.NamedNodes.{ConflictNamed, VirtualNamed, ExpansionNamed, conflict-named, virtual-named, expansion-named}
+use Rattle.rules.proofs.Orders.{isOfTheThree}
 use Rattle.rules.proofs.Areas.{InArea, fresh, named-concerned, named-in, inside-in, area-closed}
-
--- "the three requests"
-abbrev pub isOfTheThree : Request → Bool
-isOfTheThree (Q.Conflict c) = true
-isOfTheThree (Q.VirtualConflict c) = true
-isOfTheThree (Q.Expansion e) = true
-isOfTheThree Q.Reset = false
-isOfTheThree Q.List = false
 
 -- ---- what is done
 
