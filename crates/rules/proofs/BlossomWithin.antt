@@ -59,8 +59,8 @@ module _ (S : ℕ → Type 0) (making : Bool) (nothing : S none) where
   adopted-moves b c m p =
       look-moves b (λ s t. alter c (λ r. withSibling (s .firstChild) (withParent b r)) (alter b (withFirstChild c) t)) m
       (λ s i.
-          then-moves S making (alter b (withFirstChild c)) (alter c (λ r. withSibling (s .firstChild) (withParent b r))) (child-moves b c m p)
-          (alter-moves S making c (λ r. withSibling (s .firstChild) (withParent b r)) p (λ r j. record { parent = m; child = j .child; sibling = i .child })))
+      then-moves S making (alter b (withFirstChild c)) (alter c (λ r. withSibling (s .firstChild) (withParent b r))) (child-moves b c m p)
+      (alter-moves S making c (λ r. withSibling (s .firstChild) (withParent b r)) p (λ r j. record { parent = m; child = j .child; sibling = i .child })))
 
   moved-step : (k b x y c : ℕ) → ((d : ℕ) → S d → Moves S making (moved k b x y d)) → S b → S c → Moves S making (moved (suc k) b x y c)
   unfolding moved
@@ -68,8 +68,8 @@ module _ (S : ℕ → Type 0) (making : Bool) (nothing : S none) where
       choose-moves S making (isNone c) same _ same-moves
       (look-moves c (λ s u. moved k b x y (s .sibling) (choose (eqb c x || eqb c y) same (adopted b c) u)) p
       (λ s i.
-          then-moves S making (choose (eqb c x || eqb c y) same (adopted b c)) (moved k b x y (s .sibling))
-          (choose-moves S making (eqb c x || eqb c y) same (adopted b c) same-moves (adopted-moves b c m p)) (ih (s .sibling) (i .sibling))))
+      then-moves S making (choose (eqb c x || eqb c y) same (adopted b c)) (moved k b x y (s .sibling))
+      (choose-moves S making (eqb c x || eqb c y) same (adopted b c) same-moves (adopted-moves b c m p)) (ih (s .sibling) (i .sibling))))
 
   moved-moves : (k b x y : ℕ) → S b → (c : ℕ) → S c → Moves S making (moved k b x y c)
   unfolding moved
@@ -82,7 +82,7 @@ module _ (S : ℕ → Type 0) (making : Bool) (nothing : S none) where
       choose-moves S making (eqb n m) same _ same-moves
       (look-moves n (λ s u. movedUpTo k b m n (s .parent) (moved 256 b below below (s .firstChild) u)) p
       (λ s i.
-          then-moves S making (moved 256 b below below (s .firstChild)) (movedUpTo k b m n (s .parent)) (moved-moves 256 b below below q (s .firstChild) (i .child)) (ih n (s .parent) (i .parent))))
+      then-moves S making (moved 256 b below below (s .firstChild)) (movedUpTo k b m n (s .parent)) (moved-moves 256 b below below q (s .firstChild) (i .child)) (ih n (s .parent) (i .parent))))
 
   up-to-moves : (k b m : ℕ) → S b → (below n : ℕ) → S n → Moves S making (movedUpTo k b m below n)
   unfolding movedUpTo
@@ -125,7 +125,7 @@ module _ (S : ℕ → Type 0) (making : Bool) (nothing : S none) where
       choose-moves S making (eqb n m) same _ same-moves
       (look-moves n (λ s u. ringUp k b m (s .parent) (alter n (enclosed b (s .parent) (s .link)) u)) q
       (λ s i.
-          then-moves S making (alter n (enclosed b (s .parent) (s .link))) (ringUp k b m (s .parent)) (enclosed-moves n b (s .parent) (s .link) q p (i .parent)) (ih (s .parent) (i .parent))))
+      then-moves S making (alter n (enclosed b (s .parent) (s .link))) (ringUp k b m (s .parent)) (enclosed-moves n b (s .parent) (s .link) q p (i .parent)) (ih (s .parent) (i .parent))))
 
   ring-up-moves : (k b m : ℕ) → S b → (n : ℕ) → S n → Moves S making (ringUp k b m n)
   unfolding ringUp
@@ -144,7 +144,7 @@ module _ (S : ℕ → Type 0) (making : Bool) (nothing : S none) where
       choose-moves S making (eqb n m) (alter n (enclosed b after (mirror l))) _ (enclosed-moves n b after (mirror l) q p r)
       (look-moves n (λ s u. ringDown k b m n (s .link) (s .parent) (alter n (enclosed b after (mirror l)) u)) q
       (λ s i.
-          then-moves S making (alter n (enclosed b after (mirror l))) (ringDown k b m n (s .link) (s .parent)) (enclosed-moves n b after (mirror l) q p r) (ih n (s .link) (s .parent) q (i .parent))))
+      then-moves S making (alter n (enclosed b after (mirror l))) (ringDown k b m n (s .link) (s .parent)) (enclosed-moves n b after (mirror l) q p r) (ih n (s .link) (s .parent) q (i .parent))))
 
   ring-down-moves : (k b m : ℕ) → S b → (after : ℕ) (l : Link) (n : ℕ) → S after → S n → Moves S making (ringDown k b m after l n)
   unfolding ringDown
@@ -162,9 +162,9 @@ module _ (S : ℕ → Type 0) (making : Bool) (nothing : S none) where
   placed-moves b m p q =
       look-moves m (λ s t. choose (isNone (s .parent)) same (replaceChild (s .parent) m b) (put t b (newBlossom m s))) q
       (λ s i.
-          then-moves S making (λ t. put t b (newBlossom m s)) (choose (isNone (s .parent)) same (replaceChild (s .parent) m b))
-          (put-moves S making b (newBlossom m s) p (record { parent = i .parent; child = nothing; sibling = i .sibling }))
-          (choose-moves S making (isNone (s .parent)) same (replaceChild (s .parent) m b) same-moves (replace-moves (s .parent) m b (i .parent) q p)))
+      then-moves S making (λ t. put t b (newBlossom m s)) (choose (isNone (s .parent)) same (replaceChild (s .parent) m b))
+      (put-moves S making b (newBlossom m s) p (record { parent = i .parent; child = nothing; sibling = i .sibling }))
+      (choose-moves S making (isNone (s .parent)) same (replaceChild (s .parent) m b) same-moves (replace-moves (s .parent) m b (i .parent) q p)))
 
   counted : (t u : Table) → Alike S t u → T making → t .blossoms ≡ u .blossoms → Moved S making t u (withBlossoms t (t .blossoms + 1)) (withBlossoms u (t .blossoms + 1))
   unfolding withBlossoms at

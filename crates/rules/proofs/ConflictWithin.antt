@@ -106,7 +106,7 @@ module _ (S : ℕ → Type 0) (making : Bool) (nothing : S none) where
   unfolding blossomInTree read
   in-tree-acted x y l t u a p q h =
       let e : made x y l (t .begin) (t .blossoms) (meeting t x y) u ≡ made x y l (u .begin) (u .blossoms) (meeting u x y) u =
-          ap₂ (λ (b c : ℕ). made x y l b c (meeting t x y) u) (a .begin) (h .2) ∙ ap (λ (m : ℕ). made x y l (u .begin) (u .blossoms) m u) (meeting-alike S t u a x y p q) in
+      ap₂ (λ (b c : ℕ). made x y l b c (meeting t x y) u) (a .begin) (h .2) ∙ ap (λ (m : ℕ). made x y l (u .begin) (u .blossoms) m u) (meeting-alike S t u a x y p q) in
       subst (λ (d : _). Acted S making t u (made x y l (t .begin) (t .blossoms) (meeting t x y) t) d) e (made-acted x y l (meeting t x y) t u a p q (meeting-in S t u a x y p) h)
 
   meet-acted : (x y : ℕ) (l : Link) (t u : Table) → Alike S t u → S x → S y → (T (sameTree t x y) → Making t u) → Acted S making t u (treesMeet x y l t) (treesMeet x y l u)
@@ -115,8 +115,8 @@ module _ (S : ℕ → Type 0) (making : Bool) (nothing : S none) where
       rw (← same-tree-alike S t u a x y p q)
       (acted-choose S making (sameTree t x y) (blossomInTree x y l) _ t u (λ s. in-tree-acted x y l t u a p q (h s))
       (λ _.
-          then-acts S making (augmentWholeTree x) _ (augment-acts S making nothing x p)
-          (then-acts S making (augmentWholeTree y) (temporaryMatch x l y) (augment-acts S making nothing y q) (match-acts S making nothing x l y p q)) t u a))
+      then-acts S making (augmentWholeTree x) _ (augment-acts S making nothing x p)
+      (then-acts S making (augmentWholeTree y) (temporaryMatch x l y) (augment-acts S making nothing y q) (match-acts S making nothing x l y p q)) t u a))
 
   -- ---- the rows
 
@@ -196,8 +196,8 @@ module _ (S : ℕ → Type 0) (making : Bool) (nothing : S none) where
         let y = c .«node_2» .0 in
         acted-then S making (change (loaded x)) _ t u (load-acts x m t u a)
         (λ b.
-            acted-then S making (change (loaded y)) (resolved x y (conflictLink c)) (loaded x t) (loaded x u) (load-acts y n (loaded x t) (loaded x u) b)
-            (λ d. resolved-acted x y (conflictLink c) (loaded y (loaded x t)) (loaded y (loaded x u)) d m n (asked x y two m n h)))
+        acted-then S making (change (loaded y)) (resolved x y (conflictLink c)) (loaded x t) (loaded x u) (load-acts y n (loaded x t) (loaded x u) b)
+        (λ d. resolved-acted x y (conflictLink c) (loaded y (loaded x t)) (loaded y (loaded x u)) d m n (asked x y two m n h)))
       where
         asked :
             (x y : ℕ)

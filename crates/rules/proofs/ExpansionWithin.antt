@@ -40,8 +40,8 @@ module _ (S : ℕ → Type 0) (making : Bool) (nothing : S none) where
       choose-acts S making (eqb n end) skip _ (skip-acts S making)
       (look-acts S making n _ m
       (λ s i.
-          look-acts S making (s .sibling) _ (i .sibling)
-          (λ peer j. then-acts S making (temporaryMatch n (s .link) (s .sibling)) (matchChain k end (peer .sibling)) (match-acts S making nothing n (s .link) (s .sibling) m (i .sibling)) (ih (peer .sibling) (j .sibling)))))
+      look-acts S making (s .sibling) _ (i .sibling)
+      (λ peer j. then-acts S making (temporaryMatch n (s .link) (s .sibling)) (matchChain k end (peer .sibling)) (match-acts S making nothing n (s .link) (s .sibling) m (i .sibling)) (ih (peer .sibling) (j .sibling)))))
 
   chain-acts : (k end n : ℕ) → S n → Acts S making (matchChain k end n)
   unfolding matchChain
@@ -70,9 +70,9 @@ module _ (S : ℕ → Type 0) (making : Bool) (nothing : S none) where
   down-step k c below grow parent l n ih b p m =
       look-acts S making n _ m
       (λ s i.
-          then-acts S making (attach n grow parent (pick (eqb n c) below (s .sibling)) l) _
-          (attach-acts n grow parent (pick (eqb n c) below (s .sibling)) l m p (one-in (eqb n c) below (s .sibling) b (i .sibling)))
-          (choose-acts S making (eqb n c) skip (attachDown k c below (not grow) n (mirror (s .link)) (s .sibling)) (skip-acts S making) (ih (not grow) n (mirror (s .link)) (s .sibling) m (i .sibling))))
+      then-acts S making (attach n grow parent (pick (eqb n c) below (s .sibling)) l) _
+      (attach-acts n grow parent (pick (eqb n c) below (s .sibling)) l m p (one-in (eqb n c) below (s .sibling) b (i .sibling)))
+      (choose-acts S making (eqb n c) skip (attachDown k c below (not grow) n (mirror (s .link)) (s .sibling)) (skip-acts S making) (ih (not grow) n (mirror (s .link)) (s .sibling) m (i .sibling))))
 
   down-acts : (k c below : ℕ) → S below → (grow : Bool) (parent : ℕ) (l : Link) (n : ℕ) → S parent → S n → Acts S making (attachDown k c below grow parent l n)
   unfolding attachDown
@@ -90,9 +90,9 @@ module _ (S : ℕ → Type 0) (making : Bool) (nothing : S none) where
   up-step k p above l grow child n ih b c m =
       look-acts S making n _ m
       (λ s i.
-          then-acts S making (attach n grow (pick (eqb n p) above (s .sibling)) child (pick (eqb n p) l (s .link))) _
-          (attach-acts n grow (pick (eqb n p) above (s .sibling)) child (pick (eqb n p) l (s .link)) m (one-in (eqb n p) above (s .sibling) b (i .sibling)) c)
-          (choose-acts S making (eqb n p) skip (attachUp k p above l (not grow) n (s .sibling)) (skip-acts S making) (ih (not grow) n (s .sibling) m (i .sibling))))
+      then-acts S making (attach n grow (pick (eqb n p) above (s .sibling)) child (pick (eqb n p) l (s .link))) _
+      (attach-acts n grow (pick (eqb n p) above (s .sibling)) child (pick (eqb n p) l (s .link)) m (one-in (eqb n p) above (s .sibling) b (i .sibling)) c)
+      (choose-acts S making (eqb n p) skip (attachUp k p above l (not grow) n (s .sibling)) (skip-acts S making) (ih (not grow) n (s .sibling) m (i .sibling))))
 
   up-acts : (k p above : ℕ) (l : Link) → S above → (grow : Bool) (child n : ℕ) → S child → S n → Acts S making (attachUp k p above l grow child n)
   unfolding attachUp

@@ -67,8 +67,8 @@ module _ (S : ℕ → Type 0) (making : Bool) (nothing : S none) where
   augment-subtree-acts n x =
       look-acts S making n _ x
       (λ s i.
-          then-acts S making (change (alter n (withFirstChild none))) (matchSiblings 256 (s .firstChild))
-          (alter-acts n (withFirstChild none) x (λ r k. record { parent = k .parent; child = nothing; sibling = k .sibling })) (siblings-acts 256 (s .firstChild) (i .child)))
+      then-acts S making (change (alter n (withFirstChild none))) (matchSiblings 256 (s .firstChild))
+      (alter-acts n (withFirstChild none) x (λ r k. record { parent = k .parent; child = nothing; sibling = k .sibling })) (siblings-acts 256 (s .firstChild) (i .child)))
 
   augment-step : (k n : ℕ) → ((a : ℕ) → S a → Acts S making (augmentWithin k a)) → S n → Acts S making (augmentWithin (suc k) n)
   unfolding augmentWithin
@@ -76,9 +76,9 @@ module _ (S : ℕ → Type 0) (making : Bool) (nothing : S none) where
       then-acts S making (augmentSubtree n) _ (augment-subtree-acts n x)
       (look-acts S making n _ x
       (λ s i.
-          unless-acts (s .parent) _
-          (look-acts S making (s .parent) _ (i .parent)
-          (λ p j. then-acts S making (augmentWithin k (p .parent)) (temporaryMatch (s .parent) (p .link) (p .parent)) (ih (p .parent) (j .parent)) (match-acts (s .parent) (p .link) (p .parent) (i .parent) (j .parent))))))
+      unless-acts (s .parent) _
+      (look-acts S making (s .parent) _ (i .parent)
+      (λ p j. then-acts S making (augmentWithin k (p .parent)) (temporaryMatch (s .parent) (p .link) (p .parent)) (ih (p .parent) (j .parent)) (match-acts (s .parent) (p .link) (p .parent) (i .parent) (j .parent))))))
 
   augment-within-acts : (k n : ℕ) → S n → Acts S making (augmentWithin k n)
   unfolding augmentWithin
@@ -112,5 +112,5 @@ module _ (S : ℕ → Type 0) (making : Bool) (nothing : S none) where
       (say-then (speed peer P.Grow) _
       (look-acts S making plus _ x
       (λ s i.
-          then-acts S making (change (alter plus (withFirstChild matched))) _ (alter-acts plus (withFirstChild matched) x (λ r k. record { parent = k .parent; child = y; sibling = k .sibling }))
-          (then-acts S making (change (alter matched (minusBelow plus peer (s .firstChild) l))) (change (alter peer (leafBelow matched))) (minus-acts matched plus peer (s .firstChild) l y x z (i .child)) (leaf-acts peer matched z y)))))
+      then-acts S making (change (alter plus (withFirstChild matched))) _ (alter-acts plus (withFirstChild matched) x (λ r k. record { parent = k .parent; child = y; sibling = k .sibling }))
+      (then-acts S making (change (alter matched (minusBelow plus peer (s .firstChild) l))) (change (alter peer (leafBelow matched))) (minus-acts matched plus peer (s .firstChild) l y x z (i .child)) (leaf-acts peer matched z y)))))

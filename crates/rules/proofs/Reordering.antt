@@ -68,9 +68,9 @@ module _ (keeps : (r : Request) (room : ℕ) (t : Table) → Whole t → verdict
     same-given b k d =
         let r = b .request in
         let said : answered r (b .room) after .said ≡ answered r (b .room) t .said =
-            ap (λ (x : Did). x .said) (answered-does r (b .room) after (asked-after b k d .accepted))
-            ∙ same-commands t w r (a .request) (b .room) (a .room) k h (apart-back t (a .request) r d)
-            ∙ sym (ap (λ (x : Did). x .said) (answered-does r (b .room) t (k .accepted))) in
+        ap (λ (x : Did). x .said) (answered-does r (b .room) after (asked-after b k d .accepted))
+        ∙ same-commands t w r (a .request) (b .room) (a .room) k h (apart-back t (a .request) r d)
+        ∙ sym (ap (λ (x : Did). x .said) (answered-does r (b .room) t (k .accepted))) in
         ap (λ (l : List Record). record { ask = b; commands = l }) said
 
     all-asked-after : (bs : List Ask) → AllAsked t bs → ApartFromAll t a bs → AllAsked after bs
