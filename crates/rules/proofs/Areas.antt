@@ -21,13 +21,14 @@ use Rattle.refusal.specs.declared.Verdict.the-variants as W
 use Rattle.record.specs.declared.request.Request.{Request}
 use Rattle.rules.specs.Slots.{up, next}
 use Rattle.rules.specs.Trees.{isUnloaded, seen}
+use Rattle.rules.specs.Walk.{allBelow}
 use Rattle.rules.specs.Chain.{_∈_}
 use Rattle.rules.specs.FactsOfBlossoms.{Inside}
 use Rattle.rules.specs.Calls.{verdict}
 use Rattle.rules.specs.Concerns.{named, concernedAt, concernedOf, concerns, isMaking}
-use Rattle.rules.proofs.Reflect.{tests, and→, →and, or→, →or, test-case, not↔, same-or-not, pick-no}
+use Rattle.rules.proofs.Reflect.{tests, and→, →and, or→, →or, test-case, not↔, same-or-not, pick-no, allBelow↔}
 use Rattle.rules.proofs.ReflectSlots.{outer-present, outer-not-inner, not-present↔}
-use Rattle.rules.proofs.Past.{at-none}
+use Rattle.rules.proofs.Past.{outer-below}
 use Rattle.rules.proofs.KindLaws.{present-case}
 use Rattle.rules.proofs.RingLaws.{inner-parent-present, inner-next}
 use Rattle.rules.proofs.InsideLaws.{inside-ring, inside-join, inside-ring-node, outer-blossom-outer, outer-blossom-holds, outer-blossom-is}
@@ -36,7 +37,7 @@ use Rattle.rules.proofs.Loading.{unloaded→}
 use Rattle.rules.proofs.Within.{In, Closed}
 use Rattle.rules.proofs.ConcernedNodes.{seen-loaded, concerned→, concerned-itself, concerned-held, concerned-outer, Held, AllHeld}
 use Rattle.rules.proofs.NamedNodes.{named-outer}
-use Rattle.rules.proofs.Orders.{ApartIn}
+use Rattle.rules.proofs.Orders.{Asked, ApartIn}
 
 -- past the last slot, as at none, there is nothing to read or write
 pub data InArea (r : Request) (t : Table) (j : ℕ) : Type 0 where
@@ -225,3 +226,22 @@ module _ (t : Table) (w : Whole t) where
   areas-apart r q m n a b d j l (fresh c e) (past g) = omega arith
   areas-apart r q m n a b d j l (fresh c e) (part k) = fresh-unconcerned q n b (rw e at k)
   areas-apart r q m n a b d j l (fresh c e) (fresh k f) = d .1 (c, k)
+
+-- ---- apart, by 256 tests
+
+abbrev pub noneShared : Request → Request → Table → Bool
+noneShared r q t = allBelow (λ j. not (concerns r t j && concerns q t j)) 256
+
+-- a concerned node has a number below 256
+concerned-below : (t : Table) → Whole t → (r : Request) (room : ℕ) → verdict r t room ≡ W.Accepted → (j : ℕ) → T (concerns r t j) → j < 256
+concerned-below t w r room ok j c =
+    elim (test-case (isUnloaded t j)) [
+      | inl u ↦ omega (arith, unloaded→ t j u .0, w .rest .sizes .begin-fits)
+      | inr d ↦ outer-below t (w .full) j (rw (seen-loaded t j (not↔ (isUnloaded t j) .0 d)) at (concerns-outer r t room w ok j c))
+    ]
+
+pub apart-by-test : (t : Table) → Whole t → (r q : Request) (room : ℕ) → Asked t r room → T (noneShared r q t) → ¬ (T (isMaking r t) × T (isMaking q t)) → ApartIn t r q
+apart-by-test t w r q room a h d = (
+  λ j k. not↔ (concerns r t j && concerns q t j) .0 (allBelow↔ (λ i. not (concerns r t i && concerns q t i)) 256 .0 h j (concerned-below t w r room (a .accepted) j (k .0))) (→and (concerns r t j) (concerns q t j) (k .0) (k .1)),
+  d,
+)

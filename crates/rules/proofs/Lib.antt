@@ -62,3 +62,4 @@ pub mod TwoRequests
 pub mod StillApart
 pub mod Reordering
 pub mod AnyOrder
+pub mod OrderExamples
