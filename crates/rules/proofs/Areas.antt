@@ -1,10 +1,10 @@
 -- The slots that an accepted request may read and write: all that is inside the nodes that it concerns, and the slot of the blossom
 -- that it makes. No pointer leads out of them, and requests that concern no common node share none.
 use mathlib.Core.Path.{_≡_, refl, ap, sym, _∙_}
-use mathlib.Core.Logic.{_≢_, _⊎_, inl, inr}
-use mathlib.Core.Bool.{Bool, true, false, not, _&&_, _||_}
+use mathlib.Core.Logic.{_⊎_, inl, inr}
+use mathlib.Core.Bool.{Bool, not, _&&_}
 use mathlib.Core.List.{List, [], _∷_}
-use Prim.Native.Nat.{ℕ, zero, suc, _+_, _≤_, _<_}
+use Prim.Native.Nat.{ℕ, _+_, _≤_, _<_}
 use native.Mathlib.Decide.{decLt}
 use native.Mathlib.Omega.{arith}
 use lib.Dec.{T}
@@ -13,8 +13,8 @@ use Rattle.slot.specs.State.{isOuter}
 use Rattle.slot.specs.Number.{none}
 use Rattle.slot.specs.Slot.{Slot, emptySlot}
 use Rattle.table.specs.Table.{Table, at}
-use Rattle.table.proofs.Laws.{Full, at-out}
-use Rattle.nodes.specs.Nodes.{isDefect, present, outer, inner}
+use Rattle.table.proofs.Laws.{at-out}
+use Rattle.nodes.specs.Nodes.{present, inner}
 use Rattle.nodes.specs.Climb.{outerBlossom, outerBlossomWithin}
 use Rattle.nodes.specs.Place.{place}
 use Rattle.refusal.specs.declared.Verdict.the-variants as W
@@ -26,8 +26,8 @@ use Rattle.rules.specs.Chain.{_∈_}
 use Rattle.rules.specs.FactsOfBlossoms.{Inside}
 use Rattle.rules.specs.Calls.{verdict}
 use Rattle.rules.specs.Concerns.{named, concernedAt, concernedOf, concerns, isMaking}
-use Rattle.rules.proofs.Reflect.{tests, and→, →and, or→, →or, test-case, not↔, same-or-not, pick-no, allBelow↔}
-use Rattle.rules.proofs.ReflectSlots.{outer-present, outer-not-inner, not-present↔}
+use Rattle.rules.proofs.Reflect.{→and, or→, →or, test-case, not↔, same-or-not, pick-no, allBelow↔}
+use Rattle.rules.proofs.ReflectSlots.{outer-not-inner, not-present↔}
 use Rattle.rules.proofs.Past.{outer-below}
 use Rattle.rules.proofs.KindLaws.{present-case}
 use Rattle.rules.proofs.RingLaws.{inner-parent-present, inner-next}
@@ -35,7 +35,7 @@ use Rattle.rules.proofs.InsideLaws.{inside-ring, inside-join, inside-ri
 use Rattle.rules.proofs.Renewing.{Whole}
 use Rattle.rules.proofs.Loading.{unloaded→}
 use Rattle.rules.proofs.Within.{In, Closed}
-use Rattle.rules.proofs.ConcernedNodes.{seen-loaded, concerned→, concerned-itself, concerned-held, concerned-outer, Held, AllHeld}
+use Rattle.rules.proofs.ConcernedNodes.{seen-loaded, concerned→, concerned-itself, concerned-held, concerned-outer, Held}
 use Rattle.rules.proofs.NamedNodes.{named-outer}
 use Rattle.rules.proofs.Orders.{Asked, ApartIn}
 

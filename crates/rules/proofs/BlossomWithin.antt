@@ -1,17 +1,17 @@
 -- Making a blossom stays within every closed set that holds the two nodes and the blossom's slot.
-use mathlib.Core.Path.{_≡_, refl, ap, sym, _∙_}
-use mathlib.Core.Bool.{Bool, true, false, _||_}
-use Prim.Native.Nat.{ℕ, zero, suc, _+_, max}
+use mathlib.Core.Path.{_≡_, refl, ap, _∙_}
+use mathlib.Core.Bool.{Bool, _||_}
+use Prim.Native.Nat.{ℕ, zero, suc, _+_}
 use native.Mathlib.Omega.{arith}
 use lib.Dec.{T, eqb}
 use Rattle.slot.specs.Number.{none}
 use Rattle.slot.specs.Slot.{Link, Slot, mirror}
 use Rattle.table.specs.Table.{Table, at, put}
 use Rattle.counts.specs.Counts.{withBlossoms}
-use Rattle.rules.specs.Act.{Act, say, change, _then_, choose, alter, same, create}
-use Rattle.rules.specs.Slots.{withParent, withFirstChild, withSibling, isNone, up, next}
+use Rattle.rules.specs.Act.{say, change, choose, alter, same, create}
+use Rattle.rules.specs.Slots.{withParent, withFirstChild, withSibling, isNone, up}
 use Rattle.rules.specs.Blossom.{relinked, relisted, replaceChild, adopted, moved, movedUpTo, lastBelow, gathered, enclosed, ringUp, ringDown, ringed, newBlossom, blossomPlaced, createBlossom}
-use Rattle.rules.proofs.Within.{In, Alike, Moved, Moves, Acted, Acts, choose-alike, moved-none, moved-then, put-moves, alter-moves, then-moves, choose-moves, say-acts, change-acts, then-acts, acted-then}
+use Rattle.rules.proofs.Within.{In, Alike, Moved, Moves, Acted, choose-alike, moved-none, put-moves, alter-moves, then-moves, choose-moves, say-acts, change-acts, then-acts, acted-then}
 
 module _ (S : ℕ → Type 0) (making : Bool) (nothing : S none) where
   same-moves : Moves S making same

@@ -2,25 +2,22 @@
 -- to a node that is not concerned.
 use mathlib.Core.Path.{_≡_, refl, ap, sym, _∙_}
 use mathlib.Core.Logic.{_≢_, _⊎_, inl, inr}
-use mathlib.Core.Bool.{Bool, true, false, not, _&&_, _||_}
+use mathlib.Core.Bool.{not, _&&_}
 use Prim.Native.Nat.{ℕ}
 use lib.Dec.{T, eqb, eqb→eq, eqb-refl}
-use Rattle.slot.specs.declared.state.State.{State}
-use Rattle.slot.specs.declared.state.State.the-variants as S
 use Rattle.slot.specs.State.{isOuter}
 use Rattle.slot.specs.Number.{none}
 use Rattle.slot.specs.Slot.{Slot, newNode}
 use Rattle.table.specs.Table.{Table, at}
 use Rattle.nodes.specs.Nodes.{isDefect, present, outer, inner}
-use Rattle.nodes.specs.declared.place.Place.{Place}
 use Rattle.nodes.specs.declared.place.Place.the-variants as P
 use Rattle.nodes.specs.Place.{place, inTree}
 use Rattle.rules.specs.Slots.{up, next}
 use Rattle.rules.specs.Trees.{isUnloaded, seen, root, sameTree}
 use Rattle.rules.specs.Concerns.{concernedAt}
 use Rattle.rules.specs.FactsOfNodes.{Paired, Plus, Kind, free-node, virtual-node, paired-node, root-node, minus-node, plus-node, OuterChild}
-use Rattle.rules.proofs.Reflect.{tests, and→, →and, or→, →or, eq→eqb, same-or-not, test-case, test-true, test-false, not↔, not-eqb↔}
-use Rattle.rules.proofs.ReflectSlots.{outer-present, outer-not-inner, not-present↔}
+use Rattle.rules.proofs.Reflect.{and→, →and, or→, →or, eq→eqb, same-or-not, test-case, test-true, test-false, not↔, not-eqb↔}
+use Rattle.rules.proofs.ReflectSlots.{outer-present, outer-not-inner}
 use Rattle.rules.proofs.KindLaws.{kind-place}
 use Rattle.rules.proofs.ChildLaws.{above-outer, outer-some, first-child, next-child, has-child}
 use Rattle.rules.proofs.WaysUp.{sameTree↔}

@@ -1,8 +1,8 @@
 -- A conflict and a virtual conflict stay within every closed set that holds the nodes that they name, and the new blossom's slot
 -- where they make one.
-use mathlib.Core.Path.{_≡_, refl, ap, ap₂, sym, subst, _∙_}
-use mathlib.Core.Logic.{_≢_, _⊎_, inl, inr}
-use mathlib.Core.Bool.{Bool, true, false, not, _&&_}
+use mathlib.Core.Path.{_≡_, refl, ap, ap₂, subst, _∙_}
+use mathlib.Core.Logic.{_≢_, inl, inr}
+use mathlib.Core.Bool.{Bool, true, false, _&&_}
 use Prim.Native.Nat.{ℕ, suc, _+_, max}
 use native.Mathlib.Omega.{arith}
 use lib.Dec.{T, eqb, leb}
@@ -18,14 +18,14 @@ use Rattle.record.specs.declared.request.Conflict.{Conflict}
 use Rattle.record.specs.declared.request.VirtualConflict.{VirtualConflict}
 use Rattle.rules.specs.Act.{Act, skip, change, _then_, look, read, choose, same}
 use Rattle.rules.specs.Trees.{isUnloaded, loaded, seen, sameTree, meeting}
-use Rattle.rules.specs.Matching.{temporaryMatch, temporaryMatchVirtual, augmentWholeTree}
+use Rattle.rules.specs.Matching.{temporaryMatch, augmentWholeTree}
 use Rattle.rules.specs.Blossom.{createBlossom}
 use Rattle.rules.specs.Conflict.{conflictLink, blossomInTree, treesMeet, rowOf, resolved, conflict, freed, virtualConflict}
 use Rattle.rules.specs.Refusals.{makesBlossom}
 use Rattle.rules.proofs.Reflect.{→and, test-case, test-true, test-false, not↔}
 use Rattle.rules.proofs.Renewing.{Whole}
-use Rattle.rules.proofs.Loading.{Loaded, load-does}
-use Rattle.rules.proofs.Within.{In, Alike, Moved, Moves, Acted, Acts, moved-none, put-moves, choose-moves, skip-acts, change-acts, then-acts, acted-then, acted-choose, look-acts, choose-acts}
+use Rattle.rules.proofs.Loading.{load-does}
+use Rattle.rules.proofs.Within.{Alike, Moves, Acted, Acts, moved-none, put-moves, choose-moves, skip-acts, change-acts, then-acts, acted-then, acted-choose, look-acts}
 use Rattle.rules.proofs.ReadingWithin.{unloaded-alike, same-tree-alike, meeting-alike, meeting-in}
 use Rattle.rules.proofs.MatchingWithin.{match-acts, match-virtual-acts, augment-acts, grow-acts, hang-acts}
 use Rattle.rules.proofs.BlossomWithin.{create-acted}

@@ -1,14 +1,14 @@
 -- Taking a blossom apart stays within every closed set that holds the blossom and the two touches that are climbed from.
-use mathlib.Core.Path.{_≡_, refl, ap, ap₂, sym, subst, _∙_}
+use mathlib.Core.Path.{_≡_, refl, ap, _∙_}
 use mathlib.Core.Bool.{Bool, true, false, not}
 use Prim.Native.Nat.{ℕ, zero, suc, _+_, _%_}
-use lib.Dec.{T, eqb}
+use lib.Dec.{eqb}
 use Rattle.lists.specs.Choice.{pick}
 use Rattle.slot.specs.Number.{none}
 use Rattle.slot.specs.Slot.{Link, Slot, mirror, emptySlot}
 use Rattle.table.specs.Table.{Table, at, put}
 use Rattle.nodes.specs.Climb.{secondOuterBlossom}
-use Rattle.rules.specs.Act.{Act, skip, say, change, _then_, look, read, choose, alter, speed, expand}
+use Rattle.rules.specs.Act.{Act, skip, _then_, look, read, choose, alter, speed, expand}
 use Rattle.rules.specs.Slots.{withParent, shaped, next}
 use Rattle.rules.specs.Matching.{temporaryMatch}
 use Rattle.rules.specs.Blossom.{replaceChild}

@@ -47,6 +47,7 @@ pub mod Resetting
 pub mod TreesInPairs
 pub mod Answering
 pub mod KeptWithoutBlossoms
+pub mod Keeping
 pub mod Orders
 pub mod Within
 pub mod MatchingWithin

@@ -1,18 +1,14 @@
 -- Matching, augmenting and hanging in stay within every closed set that holds the nodes that they are told.
-use mathlib.Core.Path.{_≡_}
-use mathlib.Core.Bool.{Bool, not, _&&_}
+use mathlib.Core.Bool.{Bool}
 use Prim.Native.Nat.{ℕ, zero, suc}
-use lib.Dec.{eqb}
-use Rattle.slot.specs.declared.state.State.the-variants as S
 use Rattle.slot.specs.Number.{none}
 use Rattle.slot.specs.Slot.{Link, Slot, mirror}
-use Rattle.table.specs.Table.{Table, at}
 use Rattle.record.specs.declared.answer.Speed.the-variants as P
-use Rattle.rules.specs.Act.{Act, skip, say, change, _then_, look, choose, alter, speed}
+use Rattle.rules.specs.Act.{Act, skip, say, change, _then_, alter, speed}
 use Rattle.rules.specs.Slots.{withFirstChild, isNone}
 use Rattle.rules.specs.Matching.{matchedTo, temporaryMatch, temporaryMatchVirtual, unlessNone, subtree, matchSiblings, augmentSubtree, augmentWithin, augmentWholeTree}
 use Rattle.rules.specs.Conflict.{leafBelow, rootAbove, minusBelow, growTree, hangPair}
-use Rattle.rules.proofs.Within.{In, Alike, Acted, Acts, alter-moves, skip-acts, say-acts, change-acts, then-acts, look-acts, choose-acts}
+use Rattle.rules.proofs.Within.{In, Acts, alter-moves, skip-acts, say-acts, change-acts, then-acts, look-acts, choose-acts}
 
 module _ (S : ℕ → Type 0) (making : Bool) (nothing : S none) where
   -- a slot changed, by a function that stores only pointers into S

@@ -1,11 +1,11 @@
 -- What an accepted request says of the nodes that it names: each is seen as an outer node, and its touch is a defect inside it.
-use mathlib.Core.Path.{_≡_, refl}
+use mathlib.Core.Path.{_≡_}
 use mathlib.Core.Logic.{_≢_, inl, inr}
 use mathlib.Core.Bool.{Bool, true, false, not, _&&_, _||_}
 use mathlib.Core.List.{List, [], _∷_}
 use Prim.Native.Nat.{ℕ, _≤_}
 use native.Mathlib.Omega.{arith}
-use lib.Dec.{T, eqb}
+use lib.Dec.{T}
 use Rattle.lists.specs.Choice.{pick}
 use Rattle.slot.specs.declared.state.State.the-variants as S
 use Rattle.slot.specs.State.{isOuter}
@@ -24,7 +24,7 @@ use Rattle.rules.specs.Slots.{isShrink}
 use Rattle.rules.specs.Sound.{isDefectInside}
 use Rattle.rules.specs.Trees.{seen}
 use Rattle.rules.specs.Chain.{_∈_}
-use Rattle.rules.specs.Refusals.{Check, firstOf, conflictChecks, virtualChecks, expansionChecks, isNotOuter, isOutside, isNotExpandable, conflictNodeChecks, virtualNodeChecks, expansionNodeChecks}
+use Rattle.rules.specs.Refusals.{Check, firstOf, conflictChecks, virtualChecks, expansionChecks, isNotOuter, isOutside, conflictNodeChecks, virtualNodeChecks, expansionNodeChecks}
 use Rattle.rules.specs.Calls.{verdict}
 use Rattle.rules.specs.Concerns.{named}
 use Rattle.rules.specs.FactsOfBlossoms.{DefectInside}

@@ -1,11 +1,7 @@
 -- Four requests that can come in any order, on one table: one makes a blossom, one augments a tree for a virtual vertex, one takes a
 -- blossom apart, one loads two defects. And why two that both make a blossom are left out.
-use mathlib.Core.Path.{_≡_, refl, ap}
-use mathlib.Core.Logic.{_≢_}
-use mathlib.Core.Bool.{Bool, true, false, not, _&&_}
+use mathlib.Core.Path.{_≡_, refl}
 use mathlib.Core.List.{List, [], _∷_}
-use Prim.Native.Nat.{ℕ}
-use native.Mathlib.Omega.{arith}
 use lib.Dec.{T}
 use Rattle.table.specs.Table.{Table, at}
 use Rattle.table.proofs.Laws.{Full}
@@ -13,13 +9,11 @@ use Rattle.counts.specs.Making.{fresh}
 use Rattle.record.specs.declared.request.Request.{Request}
 use Rattle.rules.specs.Act.{create, expand}
 use Rattle.rules.specs.Sound.{sound}
-use Rattle.rules.specs.Walk.{allBelow}
-use Rattle.rules.specs.Concerns.{concerns, isMaking}
-use Rattle.rules.proofs.Script.{meet, join, border, open-up, after, saysAfter, grows, shrinks, all-rules}
-use Rattle.rules.proofs.SoundFacts.{sound→facts}
+use Rattle.rules.proofs.Script.{meet, join, border, open-up, after, saysAfter, numberAfter, grows, shrinks, all-rules}
 use Rattle.rules.proofs.Renewing.{Whole}
-use Rattle.rules.proofs.Orders.{Asked, ApartIn, Ask, AllAsked, PairwiseApart}
-use Rattle.rules.proofs.Areas.{noneShared, apart-by-test}
+use Rattle.rules.proofs.Orders.{Ask, AllAsked, PairwiseApart}
+use Rattle.rules.proofs.Areas.{apart-by-test}
+use Rattle.rules.proofs.TwoRequests.{sound-whole}
 
 -- trees 2, 0, 1 and 5, 3, 4; the blossom 128 of 8, 6, 7 as a − node below 10, with 9 below it
 ready : Table
@@ -36,7 +30,7 @@ unfolding all-rules ready
 ready-sound = tt
 
 ready-whole : Whole ready
-ready-whole = let f = sound→facts ready ready-full ready-sound in record { full = ready-full; core = f .core; rest = f .rest }
+ready-whole = sound-whole ready ready-full ready-sound
 
 ask : Request → Ask
 ask r = record { request = r; room = 4096 }
@@ -46,24 +40,40 @@ four = ask (join 2 1) ∷ ask (border 5 5 15 99) ∷ ask (open-up 128) ∷ ask (
 
 four-asked : AllAsked ready four
 unfolding all-rules ready four ask
-four-asked =
-    (record { three = tt; accepted = refl },
-    (record { three = tt; accepted = refl },
-    (record { three = tt; accepted = refl },
-    (record { three = tt; accepted = refl }, tt))))
+four-asked = (
+  record { three = tt; accepted = refl },
+  (
+    record { three = tt; accepted = refl },
+    (
+      record { three = tt; accepted = refl },
+      (record { three = tt; accepted = refl }, tt),
+    ),
+  ),
+)
 
 -- they are pairwise apart
 four-apart : PairwiseApart ready four
 unfolding all-rules ready four ask
 four-apart =
-    let a = four-asked in
-    ((apart-by-test ready ready-whole (join 2 1) (border 5 5 15 99) 4096 (a .0) tt (λ h. h .1),
-    (apart-by-test ready ready-whole (join 2 1) (open-up 128) 4096 (a .0) tt (λ h. h .1),
-    (apart-by-test ready ready-whole (join 2 1) (join 20 21) 4096 (a .0) tt (λ h. h .1), tt))),
-    ((apart-by-test ready ready-whole (border 5 5 15 99) (open-up 128) 4096 (a .1 .0) tt (λ h. h .1),
-    (apart-by-test ready ready-whole (border 5 5 15 99) (join 20 21) 4096 (a .1 .0) tt (λ h. h .1), tt)),
-    ((apart-by-test ready ready-whole (open-up 128) (join 20 21) 4096 (a .1 .1 .0) tt (λ h. h .1), tt),
-    (tt, tt))))
+    let a = four-asked in (
+      (
+        apart-by-test ready ready-whole (join 2 1) (border 5 5 15 99) 4096 (a .0) tt (λ h. h .1),
+        (
+          apart-by-test ready ready-whole (join 2 1) (open-up 128) 4096 (a .0) tt (λ h. h .1),
+          (apart-by-test ready ready-whole (join 2 1) (join 20 21) 4096 (a .0) tt (λ h. h .1), tt),
+        ),
+      ),
+      (
+        (
+          apart-by-test ready ready-whole (border 5 5 15 99) (open-up 128) 4096 (a .1 .0) tt (λ h. h .1),
+          (apart-by-test ready ready-whole (border 5 5 15 99) (join 20 21) 4096 (a .1 .0) tt (λ h. h .1), tt),
+        ),
+        (
+          (apart-by-test ready ready-whole (open-up 128) (join 20 21) 4096 (a .1 .1 .0) tt (λ h. h .1), tt),
+          (tt, tt),
+        ),
+      ),
+    )
 
 -- each says the same when it is the last as when it is the first
 making-first : saysAfter [] (join 2 1) ready ≡ create 129 ∷ []
@@ -82,7 +92,15 @@ opening-last : saysAfter (border 5 5 15 99 ∷ join 2 1 ∷ join 20 21 ∷ []) (
 unfolding all-rules ready
 opening-last = refl
 
--- ---- two that make a blossom: the first one takes slot 129
+-- ---- two that make a blossom, both accepted in either order: the first one takes slot 129
+
+two-makings-accepted :
+    (numberAfter [] (join 2 1) ready ≡ 0)
+    × (numberAfter [] (join 5 4) ready ≡ 0)
+    × (numberAfter (join 5 4 ∷ []) (join 2 1) ready ≡ 0)
+    × (numberAfter (join 2 1 ∷ []) (join 5 4) ready ≡ 0)
+unfolding all-rules ready
+two-makings-accepted = (refl, refl, refl, refl)
 
 two-makings : (at (after (join 2 1 ∷ join 5 4 ∷ []) ready) 129 .ring ≡ 2) × (at (after (join 5 4 ∷ join 2 1 ∷ []) ready) 129 .ring ≡ 5)
 unfolding all-rules ready

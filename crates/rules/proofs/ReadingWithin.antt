@@ -1,22 +1,21 @@
 -- Climbs and ways up that start in a closed set stay in it, and find the same on tables that are alike there.
-use mathlib.Core.Path.{_≡_, refl, ap, ap₂, sym, _∙_}
-use mathlib.Core.Logic.{inl, inr}
+use mathlib.Core.Path.{_≡_, refl, ap, ap₂}
 use mathlib.Core.Bool.{Bool, true, false, not, _&&_, _||_}
 use mathlib.Core.List.{List, [], _∷_}
 use Prim.Native.Nat.{ℕ, zero, suc}
-use lib.Dec.{T, eqb, leb, ltb}
+use lib.Dec.{eqb, ltb}
 use Rattle.lists.specs.Choice.{pick}
-use Rattle.slot.specs.State.{isInner, isPresent}
+use Rattle.slot.specs.State.{isPresent}
 use Rattle.slot.specs.Number.{none}
 use Rattle.slot.specs.Slot.{Slot, newNode}
 use Rattle.table.specs.Table.{Table, at}
-use Rattle.nodes.specs.Nodes.{isDefect, present, inner}
-use Rattle.nodes.specs.Climb.{inside, insideWithin, outerBlossom, outerBlossomWithin, secondOuterBlossom, secondOuterWithin}
+use Rattle.nodes.specs.Nodes.{inner}
+use Rattle.nodes.specs.Climb.{inside, insideWithin, secondOuterBlossom, secondOuterWithin}
 use Rattle.rules.specs.Slots.{isNone, isSome, up}
 use Rattle.rules.specs.Walk.{walk, firstShared, isIn}
 use Rattle.rules.specs.Trees.{isUnloaded, seen, upward, root, rootWithin, sameTree, meeting}
 use Rattle.rules.specs.Sound.{isDefectInside}
-use Rattle.rules.proofs.Within.{In, Closed, Alike}
+use Rattle.rules.proofs.Within.{Alike}
 
 module _ (S : ℕ → Type 0) (t u : Table) (a : Alike S t u) where
   above : (n : ℕ) → S n → S (up t n)

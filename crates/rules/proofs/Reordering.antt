@@ -7,8 +7,9 @@ use Rattle.refusal.specs.declared.Verdict.the-variants as W
 use Rattle.record.specs.declared.request.Request.{Request}
 use Rattle.record.specs.declared.answer.Record.{Record}
 use Rattle.rules.specs.Act.{Did}
-use Rattle.rules.specs.Calls.{actOf, actBy, verdict, answered}
+use Rattle.rules.specs.Calls.{actOf, verdict, answered}
 use Rattle.rules.proofs.Renewing.{Whole}
+use Rattle.rules.proofs.Keeping.{Keeps}
 use Rattle.rules.proofs.Orders.{Asked, ApartIn, Ask, AllAsked, ApartFromAll, PairwiseApart, doneInOrder, AcceptedInOrder, Given, givenOn, givenInOrder, givenFirst, Reordered, as-it-is, neighbours, further-on, and-then}
 use Rattle.rules.proofs.Areas.{apart-back}
 use Rattle.rules.proofs.TwoRequests.{accepted-after, same-table, same-commands}
@@ -49,7 +50,7 @@ module _ (t : Table) where
 
 -- ---- after one of them; that it keeps a sound table sound is asked for
 
-module _ (keeps : (r : Request) (room : ℕ) (t : Table) → Whole t → verdict r t room ≡ W.Accepted → Whole (actOf r t .table)) where
+module _ (keeps : Keeps) where
   module _ (t : Table) (w : Whole t) (a : Ask) (h : Asked t (a .request) (a .room)) where
     abbrev after : Table
     after = actOf (a .request) t .table

@@ -4,15 +4,13 @@ use mathlib.Core.Logic.{_≢_, inl, inr}
 use mathlib.Core.Bool.{Bool, true, false, not, _&&_, _||_}
 use mathlib.Core.List.{List, [], _∷_}
 use Prim.Native.Nat.{ℕ, _+_}
-use lib.Dec.{T, eqb, leb, ltb}
-use Rattle.slot.specs.declared.state.State.the-variants as S
+use lib.Dec.{T, eqb, leb}
 use Rattle.slot.specs.State.{isOuter, isPresent}
 use Rattle.slot.specs.Slot.{Slot}
 use Rattle.table.specs.Table.{Table, at}
 use Rattle.nodes.specs.Nodes.{outer}
 use Rattle.nodes.specs.Place.{inTree}
 use Rattle.refusal.specs.declared.Refusal.the-variants as N
-use Rattle.refusal.specs.declared.Verdict.{Verdict}
 use Rattle.refusal.specs.declared.Verdict.the-variants as W
 use Rattle.record.specs.declared.request.Conflict.{Conflict}
 use Rattle.record.specs.declared.request.VirtualConflict.{VirtualConflict}
@@ -21,13 +19,12 @@ use Rattle.record.specs.declared.request.Request.{Request}
 use Rattle.record.specs.declared.request.Request.the-variants as Q
 use Rattle.rules.specs.Slots.{isGrow, isShrink, up}
 use Rattle.rules.specs.Sound.{sound, isDefectInside}
-use Rattle.rules.specs.Trees.{seen, sameTree}
+use Rattle.rules.specs.Trees.{seen}
 use Rattle.rules.specs.Blossom.{lacksBlossomSlot}
 use Rattle.rules.specs.FactsOfBlossoms.{Inside}
-use Rattle.rules.specs.Refusals.{Check, firstOf, _when_, lacksCommandRoom, isNoVertex, makesBlossom, conflictNodeChecks, virtualNodeChecks, expansionNodeChecks, conflictLacksSlot, isNotExpandable}
+use Rattle.rules.specs.Refusals.{Check, firstOf, _when_, lacksCommandRoom, isNoVertex, makesBlossom, conflictNodeChecks, virtualNodeChecks, expansionNodeChecks, conflictLacksSlot}
 use Rattle.rules.specs.Calls.{actOf, verdict}
-use Rattle.rules.specs.Concerns.{named, concerns, isMaking}
-use Rattle.rules.proofs.Reflect.{test-case, test-true, test-false, not↔}
+use Rattle.rules.specs.Concerns.{isMaking}
 use Rattle.rules.proofs.ChildLaws.{first-child, shrink-is-minus, child-of-shrink}
 use Rattle.rules.proofs.TouchLaws.{touch-inside, peer-touch-tree}
 use Rattle.rules.proofs.ChildLaws.{outer-some}
@@ -36,9 +33,9 @@ use Rattle.rules.proofs.Within.{Alike, Acted}
 use Rattle.rules.proofs.ReadingWithin.{seen-alike, defect-inside-alike, same-tree-alike}
 use Rattle.rules.proofs.ConflictWithin.{conflict-acted, virtual-acts}
 use Rattle.rules.proofs.ExpansionWithin.{expansion-acted}
-use Rattle.rules.proofs.NamedNodes.{ConflictNamed, VirtualNamed, ExpansionNamed, conflict-named, virtual-named, expansion-named}
+use Rattle.rules.proofs.NamedNodes.{conflict-named, virtual-named, expansion-named}
 use Rattle.rules.proofs.Orders.{isOfTheThree}
-use Rattle.rules.proofs.Areas.{InArea, fresh, named-concerned, named-in, inside-in, area-closed}
+use Rattle.rules.proofs.Areas.{InArea, fresh, named-concerned, named-in, inside-in}
 
 -- ---- what is done
 

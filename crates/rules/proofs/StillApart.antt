@@ -1,7 +1,7 @@
 -- Requests that concern no common node concern none after another request that concerns none of theirs.
-use mathlib.Core.Path.{_≡_, refl, ap, sym, _∙_}
+use mathlib.Core.Path.{_≡_, refl}
 use mathlib.Core.Logic.{_≢_, _⊎_, inl, inr}
-use mathlib.Core.Bool.{Bool, _&&_, _||_}
+use mathlib.Core.Bool.{_&&_}
 use mathlib.Core.List.{List, [], _∷_}
 use Prim.Native.Nat.{ℕ}
 use lib.Dec.{T, eqb, eqb→eq}
@@ -12,24 +12,22 @@ use Rattle.nodes.specs.Nodes.{outer}
 use Rattle.nodes.specs.declared.place.Place.{Place}
 use Rattle.nodes.specs.declared.place.Place.the-variants as P
 use Rattle.nodes.specs.Place.{place, inTree}
-use Rattle.refusal.specs.declared.Verdict.the-variants as W
 use Rattle.record.specs.declared.request.Request.{Request}
 use Rattle.record.specs.declared.request.Request.the-variants as Q
 use Rattle.rules.specs.Slots.{isSome, up, next}
-use Rattle.rules.specs.Chain.{_∈_, Chain}
+use Rattle.rules.specs.Chain.{Chain}
 use Rattle.rules.specs.Trees.{seen, root, sameTree}
-use Rattle.rules.specs.Calls.{actOf, verdict}
+use Rattle.rules.specs.Calls.{actOf}
 use Rattle.rules.specs.Concerns.{named, concernedAt, concerns, isMaking}
-use Rattle.rules.proofs.Reflect.{and→, →and, same-or-not}
+use Rattle.rules.proofs.Reflect.{and→, same-or-not}
 use Rattle.rules.proofs.Chains.{chain-all}
 use Rattle.rules.proofs.ChildLaws.{above-outer}
-use Rattle.rules.proofs.WaysUp.{upward-chain, upward-top, root-is-end, sameTree↔}
+use Rattle.rules.proofs.WaysUp.{upward-top, root-is-end}
 use Rattle.rules.proofs.Renewing.{Whole}
 use Rattle.rules.proofs.Trimming.{root-up}
-use Rattle.rules.proofs.Within.{In, Closed, Alike}
+use Rattle.rules.proofs.Within.{Closed, Alike}
 use Rattle.rules.proofs.ReadingWithin.{seen-alike, root-alike, root-in, same-tree-alike}
-use Rattle.rules.proofs.ConcernedNodes.{seen-loaded, seen-in-tree, seen-outer}
-use Rattle.rules.proofs.NamedNodes.{named-outer}
+use Rattle.rules.proofs.ConcernedNodes.{seen-loaded, seen-in-tree}
 use Rattle.rules.proofs.Orders.{Asked, ApartIn}
 use Rattle.rules.proofs.Areas.{InArea, concerned-by, by-concerned, named-in}
 use Rattle.rules.proofs.RequestsWithin.{makes-alike}

@@ -1,8 +1,7 @@
 -- Two accepted requests that concern no common node, in either order.
-use mathlib.Core.Path.{_≡_, refl, ap, sym, _∙_}
+use mathlib.Core.Path.{_≡_, refl, sym, _∙_}
 use mathlib.Core.Logic.{_⊎_, inl, inr}
-use mathlib.Core.Bool.{Bool}
-use Prim.Native.Nat.{ℕ, _+_, max, _<_}
+use Prim.Native.Nat.{ℕ, _<_}
 use native.Mathlib.Decide.{decLt}
 use native.Mathlib.Omega.{arith}
 use lib.Dec.{T}
@@ -13,12 +12,15 @@ use Rattle.record.specs.declared.request.Request.{Request}
 use Rattle.rules.specs.Sound.{sound}
 use Rattle.rules.specs.Calls.{actOf, verdict}
 use Rattle.rules.specs.Concerns.{isMaking}
-use Rattle.rules.proofs.SoundFacts.{facts→sound}
+use Rattle.rules.proofs.SoundFacts.{sound→facts, facts→sound}
 use Rattle.rules.proofs.Renewing.{Whole}
 use Rattle.rules.proofs.Within.{Alike, Moved, Acted}
 use Rattle.rules.proofs.Orders.{Asked, ApartIn}
 use Rattle.rules.proofs.Areas.{InArea, in-area-or-not, area-closed, apart-back, areas-apart}
 use Rattle.rules.proofs.RequestsWithin.{request-acted, request-verdict}
+
+pub sound-whole : (t : Table) → Full t → T (sound t) → Whole t
+sound-whole t full s = let f = sound→facts t full s in record { full = full; core = f .core; rest = f .rest }
 
 pub whole-sound : (t : Table) → Whole t → T (sound t)
 whole-sound t w = facts→sound t (w .full) (record { core = w .core; rest = w .rest })

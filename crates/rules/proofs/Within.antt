@@ -1,7 +1,7 @@
 -- Rules that read and write only within a set of slots. Done on two tables that are alike there, such a rule says the same on both
 -- and leaves them alike there; elsewhere it changes neither.
-use mathlib.Core.Path.{_≡_, refl, ap, ap₂, sym, _∙_}
-use mathlib.Core.Logic.{_≢_, inl, inr}
+use mathlib.Core.Path.{_≡_, refl, ap₂, _∙_}
+use mathlib.Core.Logic.{inl, inr}
 use mathlib.Core.Bool.{Bool, true, false, not}
 use mathlib.Core.List.{List, _++_}
 use Prim.Native.Nat.{ℕ, _+_, max}
@@ -9,11 +9,11 @@ use native.Mathlib.Decide.{decLt}
 use native.Mathlib.Omega.{arith}
 use lib.Dec.{T}
 use Rattle.slot.specs.Number.{none}
-use Rattle.slot.specs.Slot.{Slot, emptySlot}
+use Rattle.slot.specs.Slot.{Slot}
 use Rattle.table.specs.Table.{Table, at, put}
 use Rattle.table.proofs.Laws.{Full, at-put-same, at-put-other, put-full, put-out}
 use Rattle.record.specs.declared.answer.Record.{Record}
-use Rattle.rules.specs.Act.{Did, Act, skip, say, change, _then_, look, read, choose, alter, same}
+use Rattle.rules.specs.Act.{Did, Act, skip, say, change, _then_, look, choose, alter}
 use Rattle.rules.proofs.Reflect.{same-or-not}
 
 -- the pointers of a slot that rules follow, all in the set S
