@@ -43,6 +43,11 @@ pub mod WholeTrees
 pub mod Rows
 pub mod Resolving
 pub mod Accepting
+pub mod ReadAs
+pub mod Opened
+pub mod OpenedPlaces
+pub mod OpenedLimbs
+pub mod OpenedCore
 pub mod Resetting
 pub mod TreesInPairs
 pub mod Answering
