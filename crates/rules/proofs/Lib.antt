@@ -48,6 +48,7 @@ pub mod Opened
 pub mod OpenedPlaces
 pub mod OpenedLimbs
 pub mod OpenedCore
+pub mod OpenedRest
 pub mod Resetting
 pub mod TreesInPairs
 pub mod Answering
