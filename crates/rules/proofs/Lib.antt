@@ -49,6 +49,8 @@ pub mod OpenedPlaces
 pub mod OpenedLimbs
 pub mod OpenedCore
 pub mod OpenedRest
+pub mod RingStretches
+pub mod RingLoops
 pub mod Resetting
 pub mod TreesInPairs
 pub mod Answering
