@@ -51,6 +51,7 @@ pub mod OpenedCore
 pub mod OpenedRest
 pub mod RingStretches
 pub mod RingLoops
+pub mod RingLeft
 pub mod Resetting
 pub mod TreesInPairs
 pub mod Answering

@@ -45,7 +45,7 @@ record Under (u : Table) (bottom below : ℕ) : Type 0 where
   child : OuterChild u bottom below
   siblingless : next u below ≡ none
 
-not-not : (grow : Bool) → not (not grow) ≡ grow
+pub not-not : (grow : Bool) → not (not grow) ≡ grow
 not-not true = refl
 not-not false = refl
 
