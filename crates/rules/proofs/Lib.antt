@@ -52,6 +52,7 @@ pub mod OpenedRest
 pub mod RingStretches
 pub mod RingLoops
 pub mod RingLeft
+pub mod RingCut
 pub mod Resetting
 pub mod TreesInPairs
 pub mod Answering
