@@ -53,6 +53,7 @@ pub mod RingStretches
 pub mod RingLoops
 pub mod RingLeft
 pub mod RingCut
+pub mod RingTaken
 pub mod Resetting
 pub mod TreesInPairs
 pub mod Answering
