@@ -49,7 +49,7 @@ pub two-frame : (t v u : Table) (ms : List ℕ) → ((j : ℕ) → j ∈ ms → 
 two-frame t v u ms same x m r =
     record { peer = r .peer; link = r .link; among = r .among; another = r .another; here = same x m ∙ r .here; there = same (r .peer) (r .among) ∙ r .there; right = r .right }
 
-module _ (t : Table) (w : Whole t) (b p c above below : ℕ) (l : Link) (r : CutRing t b p c) (right : RightLink t p l above) where
+module _ (t : Table) (w : Whole t) (b p c : ℕ) (r : CutRing t b p c) where
   inner-of : (j : ℕ) → j ∈ (r .before ++ (c ∷ r .after)) → T (inner t j)
   inner-of j m = r .exact j .0 m .0
 
@@ -64,57 +64,61 @@ module _ (t : Table) (w : Whole t) (b p c above below : ℕ) (l : Link) (r : Cut
   in-after : (j : ℕ) → j ∈ r .after → j ∈ (r .before ++ (c ∷ r .after))
   in-after j m = in-right (r .before) (c ∷ r .after) j (inr m)
 
-  -- ---- d even
+  -- ---- d even: those behind C are matched
 
-  abbrev evenTwos : Table
-  evenTwos = twoByTwo (r .after) t .table
-
-  abbrev evenTable : Table
-  evenTable = hungDown below false above l (r .before ++ (c ∷ [])) evenTwos .table
-
-  pub even-after : (h : ℕ) → length (r .before) ≡ h + h → (k : ℕ) × (length (r .after) ≡ k + k)
+  even-after : (h : ℕ) → length (r .before) ≡ h + h → (k : ℕ) × (length (r .after) ≡ k + k)
   even-after h e = even-left (r .half) h (length (r .after)) (omega (arith, r .odd, length-append (r .before) (c ∷ r .after)))
 
-  pub even-taken : (h : ℕ) → length (r .before) ≡ h + h → RingTaken t evenTable b p c above below
-  even-taken h e =
-      record {
-        lower = first .0;
-        matched = r .after;
-        half = h;
-        full = down .0 .full;
-        counts = counts-then t evenTwos evenTable (two .0 .counts) (down .0 .counts);
-        elsewhere = λ j n. down .0 .elsewhere j (λ m. n (r .exact j .0 (in-upper j m))) ∙ two .0 .elsewhere j (λ m. n (r .exact j .0 (in-after j m)));
-        ring = λ j. (elim [ inl m ↦ r .exact j .0 (in-upper j (back j m)) | inr m ↦ r .exact j .0 (in-after j m) ], λ q. place j (r .exact j .1 q));
-        apart = λ j m. upper-apart t b p c r j (back j m);
-        ends = sym (ap endOf (first .1)) ∙ end-append (r .before) c;
-        odd = omega (arith, ap length (first .1), length-append (r .before) (c ∷ []), e);
-        attached = subst (λ (xs : List ℕ). AttachedDown t evenTable false above none below xs) (first .1) (down .1);
-        twos = λ x m. two-frame t evenTwos evenTable (r .after) (λ j i. down .0 .elsewhere j (λ k. upper-apart t b p c r j k i)) x m (two .1 x m);
-      }
-    where
-      first : (tail : List ℕ) × (r .before ++ (c ∷ []) ≡ p ∷ tail)
-      first = from-top t b p c r
+  pub even-twos : (h : ℕ) → length (r .before) ≡ h + h → ButAt t (twoByTwo (r .after) t .table) (r .after) × ((z : ℕ) → z ∈ r .after → InTwo t (twoByTwo (r .after) t .table) (r .after) z)
+  even-twos h e =
+      two-by-two-does t (w .full) (w .rest) t (next t c) p (r .after) (even-after h e .0) (w .full) (parts t b p c r .1 .1) (λ x m. (inner-of x (in-after x m), refl)) (r .from-c) (even-after h e .1)
 
-      back : (j : ℕ) → j ∈ (p ∷ first .0) → j ∈ (r .before ++ (c ∷ []))
-      back j m = subst (λ (xs : List ℕ). j ∈ xs) (sym (first .1)) m
+  module _ (above below : ℕ) (l : Link) (right : RightLink t p l above) where
+    abbrev evenTwos : Table
+    evenTwos = twoByTwo (r .after) t .table
 
-      place : (j : ℕ) → j ∈ (r .before ++ (c ∷ r .after)) → (j ∈ (p ∷ first .0)) ⊎ (j ∈ r .after)
-      place j m =
-          elim (in-append→ (r .before) (c ∷ r .after) j m) [
-            | inl i ↦ inl (subst (λ (xs : List ℕ). j ∈ xs) (first .1) (in-left (r .before) (c ∷ []) j i))
-            | inr (inl q) ↦ inl (subst (λ (xs : List ℕ). j ∈ xs) (first .1) (in-right (r .before) (c ∷ []) j (inl q)))
-            | inr (inr i) ↦ inr i
-          ]
+    abbrev evenTable : Table
+    evenTable = hungDown below false above l (r .before ++ (c ∷ [])) evenTwos .table
 
-      two : ButAt t evenTwos (r .after) × ((z : ℕ) → z ∈ r .after → InTwo t evenTwos (r .after) z)
-      two =
-          two-by-two-does t (w .full) (w .rest) t (next t c) p (r .after) (even-after h e .0) (w .full) (parts t b p c r .1 .1) (λ x m. (inner-of x (in-after x m), refl)) (r .from-c) (even-after h e .1)
+    pub even-taken : (h : ℕ) → length (r .before) ≡ h + h → RingTaken t evenTable b p c above below
+    even-taken h e =
+        record {
+          lower = first .0;
+          matched = r .after;
+          half = h;
+          full = down .0 .full;
+          counts = counts-then t evenTwos evenTable (two .0 .counts) (down .0 .counts);
+          elsewhere = λ j n. down .0 .elsewhere j (λ m. n (r .exact j .0 (in-upper j m))) ∙ two .0 .elsewhere j (λ m. n (r .exact j .0 (in-after j m)));
+          ring = λ j. (elim [ inl m ↦ r .exact j .0 (in-upper j (back j m)) | inr m ↦ r .exact j .0 (in-after j m) ], λ q. place j (r .exact j .1 q));
+          apart = λ j m. upper-apart t b p c r j (back j m);
+          ends = sym (ap endOf (first .1)) ∙ end-append (r .before) c;
+          odd = omega (arith, ap length (first .1), length-append (r .before) (c ∷ []), e);
+          attached = subst (λ (xs : List ℕ). AttachedDown t evenTable false above none below xs) (first .1) (down .1);
+          twos = λ x m. two-frame t evenTwos evenTable (r .after) (λ j i. down .0 .elsewhere j (λ k. upper-apart t b p c r j k i)) x m (two .1 x m);
+        }
+      where
+        first : (tail : List ℕ) × (r .before ++ (c ∷ []) ≡ p ∷ tail)
+        first = from-top t b p c r
 
-      down : ButAt evenTwos evenTable (r .before ++ (c ∷ [])) × AttachedDown t evenTable false above none below (r .before ++ (c ∷ []))
-      down =
-          hung-down-does t (w .full) (w .rest) evenTwos below false above l p (next t c) (r .before ++ (c ∷ [])) (two .0 .full) (upper-once t b p c r)
-          (λ x m. (inner-of x (in-upper x m), two .0 .elsewhere x (upper-apart t b p c r x m)))
-          (stretch-join t p (r .before) c (c ∷ []) (next t c) (r .to-c) (refl, refl)) right
+        back : (j : ℕ) → j ∈ (p ∷ first .0) → j ∈ (r .before ++ (c ∷ []))
+        back j m = subst (λ (xs : List ℕ). j ∈ xs) (sym (first .1)) m
+
+        place : (j : ℕ) → j ∈ (r .before ++ (c ∷ r .after)) → (j ∈ (p ∷ first .0)) ⊎ (j ∈ r .after)
+        place j m =
+            elim (in-append→ (r .before) (c ∷ r .after) j m) [
+              | inl i ↦ inl (subst (λ (xs : List ℕ). j ∈ xs) (first .1) (in-left (r .before) (c ∷ []) j i))
+              | inr (inl q) ↦ inl (subst (λ (xs : List ℕ). j ∈ xs) (first .1) (in-right (r .before) (c ∷ []) j (inl q)))
+              | inr (inr i) ↦ inr i
+            ]
+
+        two : ButAt t evenTwos (r .after) × ((z : ℕ) → z ∈ r .after → InTwo t evenTwos (r .after) z)
+        two = even-twos h e
+
+        down : ButAt evenTwos evenTable (r .before ++ (c ∷ [])) × AttachedDown t evenTable false above none below (r .before ++ (c ∷ []))
+        down =
+            hung-down-does t (w .full) (w .rest) evenTwos below false above l p (next t c) (r .before ++ (c ∷ [])) (two .0 .full) (upper-once t b p c r)
+            (λ x m. (inner-of x (in-upper x m), two .0 .elsewhere x (upper-apart t b p c r x m)))
+            (stretch-join t p (r .before) c (c ∷ []) (next t c) (r .to-c) (refl, refl)) right
 
   -- ---- d odd: P comes first, and those between it and C are matched
 
@@ -125,6 +129,7 @@ module _ (t : Table) (w : Whole t) (b p c above below : ℕ) (l : Link) (r : Cut
       go [] s q = absurd (omega arith)
       go (x ∷ xs) s q = (xs, ap (λ (y : ℕ). y ∷ xs) (sym (s .0)))
 
+  -- .. ms are those between
   module _ (ms : List ℕ) (is : r .before ≡ p ∷ ms) where
     pub odd-parts : NoDup (p ∷ ms) × NoDup (c ∷ r .after) × ((j : ℕ) → j ∈ (p ∷ ms) → ¬ (j ∈ (c ∷ r .after)))
     odd-parts = subst (λ (xs : List ℕ). NoDup xs × NoDup (c ∷ r .after) × ((j : ℕ) → j ∈ xs → ¬ (j ∈ (c ∷ r .after)))) is (parts t b p c r)
@@ -140,9 +145,6 @@ module _ (t : Table) (w : Whole t) (b p c above below : ℕ) (l : Link) (r : Cut
 
     abbrev oddTwos : Table
     oddTwos = twoByTwo ms t .table
-
-    abbrev oddTable : Table
-    oddTable = hungUp above l false below raised oddTwos .table
 
     in-raised : (j : ℕ) → j ∈ raised → j ∈ (p ∷ (ms ++ (c ∷ r .after)))
     in-raised j (inl e) = inr (in-right ms (c ∷ r .after) j (inl e))
@@ -169,58 +171,64 @@ module _ (t : Table) (w : Whole t) (b p c above below : ℕ) (l : Link) (r : Cut
     unfolding lower-of
     turned = turned-first (r .after) p (c ∷ [])
 
-    pub odd-taken : (h : ℕ) → length ms ≡ h + h → RingTaken t oddTable b p c above below
-    unfolding lower-of
-    odd-taken h e =
-        record {
-          lower = lower-of;
-          matched = ms;
-          half = rest-even .0;
-          full = up .0 .full;
-          counts = counts-then t oddTwos oddTable (two .0 .counts) (up .0 .counts);
-          elsewhere = λ j n. up .0 .elsewhere j (λ m. n (odd-exact j .0 (in-raised j m))) ∙ two .0 .elsewhere j (λ m. n (odd-exact j .0 (in-ms j m)));
-          ring = λ j. (elim [ inl m ↦ odd-exact j .0 (in-raised j (back j m)) | inr m ↦ odd-exact j .0 (in-ms j m) ], λ q. place j (odd-exact j .1 q));
-          apart = λ j m. raised-apart j (back j m);
-          ends = sym (ap endOf turned) ∙ turned-end (r .after ++ (p ∷ [])) c [];
-          odd = omega (arith, turned-length (r .after) (c ∷ []), length-append (r .after) (p ∷ []), rest-even .1);
-          attached = hung;
-          twos = λ x m. two-frame t oddTwos oddTable ms (λ j i. up .0 .elsewhere j (λ k. raised-apart j k i)) x m (two .1 x m);
-        }
-      where
-        rest-even : (k : ℕ) × (length (r .after ++ (p ∷ [])) ≡ k + k)
-        rest-even =
-            let q = even-left (r .half) h (suc (length (r .after))) (omega (arith, r .odd, ap length is, length-append (r .before) (c ∷ r .after), e)) in
-            (q .0, omega (arith, q .1, length-append (r .after) (p ∷ [])))
+    pub odd-twos : (h : ℕ) → length ms ≡ h + h → ButAt t oddTwos ms × ((z : ℕ) → z ∈ ms → InTwo t oddTwos ms z)
+    odd-twos h e = two-by-two-does t (w .full) (w .rest) t (next t p) c ms h (w .full) (odd-parts .0 .1) (λ x m. (odd-exact x .0 (in-ms x m) .0, refl)) (odd-to-c .1) e
 
-        back : (j : ℕ) → j ∈ (p ∷ lower-of) → j ∈ raised
-        back j m = elim (in-turned→ raised [] j (subst (λ (xs : List ℕ). j ∈ xs) (sym turned) m)) [ inl i ↦ i | inr z ↦ absurd z ]
+    module _ (above below : ℕ) (l : Link) (right : RightLink t p l above) where
+      abbrev oddTable : Table
+      oddTable = hungUp above l false below raised oddTwos .table
 
-        on-raised : (j : ℕ) → j ∈ raised → j ∈ (p ∷ lower-of)
-        on-raised j m = subst (λ (xs : List ℕ). j ∈ xs) turned (→in-turned raised [] j (inl m))
+      pub odd-taken : (h : ℕ) → length ms ≡ h + h → RingTaken t oddTable b p c above below
+      unfolding lower-of
+      odd-taken h e =
+          record {
+            lower = lower-of;
+            matched = ms;
+            half = rest-even .0;
+            full = up .0 .full;
+            counts = counts-then t oddTwos oddTable (two .0 .counts) (up .0 .counts);
+            elsewhere = λ j n. up .0 .elsewhere j (λ m. n (odd-exact j .0 (in-raised j m))) ∙ two .0 .elsewhere j (λ m. n (odd-exact j .0 (in-ms j m)));
+            ring = λ j. (elim [ inl m ↦ odd-exact j .0 (in-raised j (back j m)) | inr m ↦ odd-exact j .0 (in-ms j m) ], λ q. place j (odd-exact j .1 q));
+            apart = λ j m. raised-apart j (back j m);
+            ends = sym (ap endOf turned) ∙ turned-end (r .after ++ (p ∷ [])) c [];
+            odd = omega (arith, turned-length (r .after) (c ∷ []), length-append (r .after) (p ∷ []), rest-even .1);
+            attached = hung;
+            twos = λ x m. two-frame t oddTwos oddTable ms (λ j i. up .0 .elsewhere j (λ k. raised-apart j k i)) x m (two .1 x m);
+          }
+        where
+          rest-even : (k : ℕ) × (length (r .after ++ (p ∷ [])) ≡ k + k)
+          rest-even =
+              let q = even-left (r .half) h (suc (length (r .after))) (omega (arith, r .odd, ap length is, length-append (r .before) (c ∷ r .after), e)) in
+              (q .0, omega (arith, q .1, length-append (r .after) (p ∷ [])))
 
-        place : (j : ℕ) → j ∈ (p ∷ (ms ++ (c ∷ r .after))) → (j ∈ (p ∷ lower-of)) ⊎ (j ∈ ms)
-        place j (inl q) = inl (inl q)
-        place j (inr m) =
-            elim (in-append→ ms (c ∷ r .after) j m) [
-              | inl i ↦ inr i
-              | inr (inl q) ↦ inl (on-raised j (inl q))
-              | inr (inr i) ↦ inl (on-raised j (inr (in-left (r .after) (p ∷ []) j i)))
-            ]
+          back : (j : ℕ) → j ∈ (p ∷ lower-of) → j ∈ raised
+          back j m = elim (in-turned→ raised [] j (subst (λ (xs : List ℕ). j ∈ xs) (sym turned) m)) [ inl i ↦ i | inr z ↦ absurd z ]
 
-        two : ButAt t oddTwos ms × ((z : ℕ) → z ∈ ms → InTwo t oddTwos ms z)
-        two =
-            two-by-two-does t (w .full) (w .rest) t (next t p) c ms h (w .full) (odd-parts .0 .1) (λ x m. (odd-exact x .0 (in-ms x m) .0, refl)) (odd-to-c .1) e
+          on-raised : (j : ℕ) → j ∈ raised → j ∈ (p ∷ lower-of)
+          on-raised j m = subst (λ (xs : List ℕ). j ∈ xs) turned (→in-turned raised [] j (inl m))
 
-        up :
-            ButAt oddTwos oddTable raised
-            × ((acc : List ℕ) → below ≡ headOr below acc → AttachedDown t oddTable (not false) c none below acc → AttachedDown t oddTable (flipped false (r .after ++ (p ∷ []))) above none below (turnedOnto raised acc))
-        up =
-            hung-up-does t (w .full) (w .rest) oddTwos above below l false below c (r .after ++ (p ∷ [])) (next t p) (two .0 .full) raised-once
-            (λ x m. (odd-exact x .0 (in-raised x m) .0, two .0 .elsewhere x (raised-apart x m)))
-            (stretch-join t (next t c) (r .after) p (p ∷ []) (next t p) (r .from-c) (refl, refl))
-            (subst (λ (j : ℕ). RightLink t j l above) (sym (end-append (c ∷ r .after) p)) right)
+          place : (j : ℕ) → j ∈ (p ∷ (ms ++ (c ∷ r .after))) → (j ∈ (p ∷ lower-of)) ⊎ (j ∈ ms)
+          place j (inl q) = inl (inl q)
+          place j (inr m) =
+              elim (in-append→ ms (c ∷ r .after) j m) [
+                | inl i ↦ inr i
+                | inr (inl q) ↦ inl (on-raised j (inl q))
+                | inr (inr i) ↦ inl (on-raised j (inr (in-left (r .after) (p ∷ []) j i)))
+              ]
 
-        hung : AttachedDown t oddTable false above none below (p ∷ lower-of)
-        hung =
-            subst (λ (xs : List ℕ). AttachedDown t oddTable false above none below xs) turned
-            (subst (λ (g : Bool). AttachedDown t oddTable g above none below (turnedOnto raised [])) (flipped-even false (r .after ++ (p ∷ [])) (rest-even .0) (rest-even .1)) (up .1 [] refl tt))
+          two : ButAt t oddTwos ms × ((z : ℕ) → z ∈ ms → InTwo t oddTwos ms z)
+          two = odd-twos h e
+
+          up :
+              ButAt oddTwos oddTable raised
+              × ((acc : List ℕ) → below ≡ headOr below acc → AttachedDown t oddTable (not false) c none below acc → AttachedDown t oddTable (flipped false (r .after ++ (p ∷ []))) above none below (turnedOnto raised acc))
+          up =
+              hung-up-does t (w .full) (w .rest) oddTwos above below l false below c (r .after ++ (p ∷ [])) (next t p) (two .0 .full) raised-once
+              (λ x m. (odd-exact x .0 (in-raised x m) .0, two .0 .elsewhere x (raised-apart x m)))
+              (stretch-join t (next t c) (r .after) p (p ∷ []) (next t p) (r .from-c) (refl, refl))
+              (subst (λ (j : ℕ). RightLink t j l above) (sym (end-append (c ∷ r .after) p)) right)
+
+          hung : AttachedDown t oddTable false above none below (p ∷ lower-of)
+          hung =
+              subst (λ (xs : List ℕ). AttachedDown t oddTable false above none below xs) turned
+              (subst (λ (g : Bool). AttachedDown t oddTable g above none below (turnedOnto raised [])) (flipped-even false (r .after ++ (p ∷ [])) (rest-even .0) (rest-even .1)) (up .1 [] refl tt))
