@@ -54,6 +54,7 @@ pub mod RingLoops
 pub mod RingLeft
 pub mod RingCut
 pub mod RingTaken
+pub mod RingOpening
 pub mod Resetting
 pub mod TreesInPairs
 pub mod Answering

@@ -66,7 +66,7 @@ module _ (t : Table) (w : Whole t) (b p c : ℕ) (r : CutRing t b p c) where
 
   -- ---- d even: those behind C are matched
 
-  even-after : (h : ℕ) → length (r .before) ≡ h + h → (k : ℕ) × (length (r .after) ≡ k + k)
+  pub even-after : (h : ℕ) → length (r .before) ≡ h + h → (k : ℕ) × (length (r .after) ≡ k + k)
   even-after h e = even-left (r .half) h (length (r .after)) (omega (arith, r .odd, length-append (r .before) (c ∷ r .after)))
 
   pub even-twos : (h : ℕ) → length (r .before) ≡ h + h → ButAt t (twoByTwo (r .after) t .table) (r .after) × ((z : ℕ) → z ∈ r .after → InTwo t (twoByTwo (r .after) t .table) (r .after) z)
