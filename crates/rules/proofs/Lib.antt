@@ -55,6 +55,7 @@ pub mod RingLeft
 pub mod RingCut
 pub mod RingTaken
 pub mod RingOpening
+pub mod PlaceInList
 pub mod Resetting
 pub mod TreesInPairs
 pub mod Answering
