@@ -56,6 +56,7 @@ pub mod RingCut
 pub mod RingTaken
 pub mod RingOpening
 pub mod PlaceInList
+pub mod Expanding
 pub mod Resetting
 pub mod TreesInPairs
 pub mod Answering

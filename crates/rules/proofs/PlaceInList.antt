@@ -1,6 +1,6 @@
 -- `replaceChild`: "its place in its parent's list". An outer node's place in the list of its parent is given to another node: all
 -- outer nodes then read that node's number where they read the outer node's.
-use mathlib.Core.Path.{_≡_, refl, ap, sym, subst, _∙_}
+use mathlib.Core.Path.{_≡_, refl, ap, ap₂, sym, subst, _∙_}
 use mathlib.Core.Logic.{_≢_, _⊎_, inl, inr}
 use mathlib.Core.List.{List, [], _∷_}
 use Prim.Native.Nat.{ℕ, zero, suc, _≤_, _<_}
@@ -77,6 +77,14 @@ pub record Replaced (t v u : Table) (b p : ℕ) : Type 0 where
   pub counts : SameCounts v u
   pub outers : (j : ℕ) → T (outer t j) → at u j ≡ slotReadAs b p (at t j)
   pub others : (j : ℕ) → ¬ T (outer t j) → at u j ≡ at v j
+
+-- .. and p goes on where b went on
+pub record PlaceGiven (t v u : Table) (b p : ℕ) : Type 0 where
+  pub full : Full u
+  pub counts : SameCounts v u
+  pub outers : (j : ℕ) → T (outer t j) → at u j ≡ slotReadAs b p (at t j)
+  pub here : at u p ≡ withSibling (next t b) (at v p)
+  pub others : (j : ℕ) → ¬ T (outer t j) → j ≢ p → at u j ≡ at v j
 
 module _ (t v : Table) (w : Whole t) (full : Full v) (b p : ℕ) (minus : Minus t (at t b)) (agree : (j : ℕ) → T (outer t j) → at v j ≡ at t j) where
   outer-b : T (outer t b)
@@ -201,3 +209,17 @@ module _ (t v : Table) (w : Whole t) (full : Full v) (b p : ℕ) (minus : Minus 
 
   next-in-list : next (relisted (up t b) b p v) b ≡ next t b
   next-in-list = ap (λ (s : Slot). s .sibling) (relisted-does .outers b outer-b) ∙ read-other b p (next t b) blossom-goes-on
+
+  pub place-given : ¬ T (outer t p) → p < 256 → PlaceGiven t v (replaceChild (up t b) b p v) b p
+  place-given n l =
+      let u = relisted (up t b) b p v in
+      let r = relisted-does in
+      let s = withSibling (next u b) (at u p) in
+      let here : s ≡ withSibling (next t b) (at v p) = ap₂ withSibling next-in-list (r .others p n) in
+      rw replace-table (record {
+        full = put-full u p s (r .full);
+        counts = counts-then v u (put u p s) (r .counts) (put-counts u p s);
+        outers = λ j o. at-put-other u p j s (λ e. n (rw e at o)) ∙ r .outers j o;
+        here = at-put-same u p s (r .full) l ∙ here;
+        others = λ j m d. at-put-other u p j s d ∙ r .others j m;
+      })

@@ -38,6 +38,7 @@ pub record RingTaken (t v : Table) (b p c above below : ℕ) : Type 0 where
   pub counts : SameCounts t v
   pub elsewhere : (j : ℕ) → ¬ InnerChild t b j → at v j ≡ at t j
   pub ring : (j : ℕ) → ((j ∈ (p ∷ lower)) ⊎ (j ∈ matched)) ↔ InnerChild t b j
+  pub once : ¬ (p ∈ lower)
   pub apart : (j : ℕ) → j ∈ (p ∷ lower) → ¬ (j ∈ matched)
   pub ends : endOf (p ∷ lower) ≡ c
   pub odd : length (p ∷ lower) ≡ suc (half + half)
@@ -90,6 +91,7 @@ module _ (t : Table) (w : Whole t) (b p c : ℕ) (r : CutRing t b p c) where
           counts = counts-then t evenTwos evenTable (two .0 .counts) (down .0 .counts);
           elsewhere = λ j n. down .0 .elsewhere j (λ m. n (r .exact j .0 (in-upper j m))) ∙ two .0 .elsewhere j (λ m. n (r .exact j .0 (in-after j m)));
           ring = λ j. (elim [ inl m ↦ r .exact j .0 (in-upper j (back j m)) | inr m ↦ r .exact j .0 (in-after j m) ], λ q. place j (r .exact j .1 q));
+          once = subst NoDup (first .1) (upper-once t b p c r) .0;
           apart = λ j m. upper-apart t b p c r j (back j m);
           ends = sym (ap endOf (first .1)) ∙ end-append (r .before) c;
           odd = omega (arith, ap length (first .1), length-append (r .before) (c ∷ []), e);
@@ -189,6 +191,7 @@ module _ (t : Table) (w : Whole t) (b p c : ℕ) (r : CutRing t b p c) where
             counts = counts-then t oddTwos oddTable (two .0 .counts) (up .0 .counts);
             elsewhere = λ j n. up .0 .elsewhere j (λ m. n (odd-exact j .0 (in-raised j m))) ∙ two .0 .elsewhere j (λ m. n (odd-exact j .0 (in-ms j m)));
             ring = λ j. (elim [ inl m ↦ odd-exact j .0 (in-raised j (back j m)) | inr m ↦ odd-exact j .0 (in-ms j m) ], λ q. place j (odd-exact j .1 q));
+            once = λ m. elim (in-turned→ (r .after) (c ∷ []) p m) [ inl i ↦ odd-parts .2 p (inl refl) (inr i) | inr (inl q) ↦ odd-parts .2 p (inl refl) (inl q) | inr (inr z) ↦ z ];
             apart = λ j m. raised-apart j (back j m);
             ends = sym (ap endOf turned) ∙ turned-end (r .after ++ (p ∷ [])) c [];
             odd = omega (arith, turned-length (r .after) (c ∷ []), length-append (r .after) (p ∷ []), rest-even .1);
