@@ -57,6 +57,7 @@ pub mod RingTaken
 pub mod RingOpening
 pub mod PlaceInList
 pub mod Expanding
+pub mod ExpansionCommands
 pub mod Resetting
 pub mod TreesInPairs
 pub mod Answering
