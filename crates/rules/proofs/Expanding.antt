@@ -3,27 +3,27 @@ use mathlib.Core.Path.{_≡_, refl, ap, sym, _∙_}
 use mathlib.Core.Logic.{_≢_, _⊎_, inl, inr}
 use mathlib.Core.Bool.{Bool, true, false, not, _&&_}
 use mathlib.Core.List.{List, [], _∷_}
-use Prim.Native.Nat.{ℕ, _≤_, _<_}
+use Prim.Native.Nat.{ℕ, _≤_}
 use native.Mathlib.Omega.{arith}
 use lib.Dec.{T}
 use Rattle.slot.specs.declared.state.State.the-variants as S
 use Rattle.slot.specs.Number.{none}
-use Rattle.slot.specs.Slot.{Slot, emptySlot}
+use Rattle.slot.specs.Slot.{emptySlot}
 use Rattle.table.specs.Table.{Table, at, put}
 use Rattle.table.proofs.Laws.{Full, at-put-same, at-put-other, put-full}
 use Rattle.nodes.specs.Nodes.{isBlossom, outer, inner}
-use Rattle.nodes.specs.Climb.{outerBlossom, secondOuterBlossom}
+use Rattle.nodes.specs.Climb.{secondOuterBlossom}
 use Rattle.lists.specs.Choice.{pick}
 use Rattle.refusal.specs.declared.Refusal.{Refusal}
 use Rattle.refusal.specs.declared.Refusal.the-variants.{NotSound, NoCommandRoom, NotExpandable}
 use Rattle.refusal.specs.declared.Verdict.the-variants as W
 use Rattle.record.specs.declared.request.Expansion.{Expansion}
 use Rattle.record.specs.declared.request.Request.the-variants as Q
-use Rattle.rules.specs.Act.{say, change, _then_, look, read, alter, expand}
-use Rattle.rules.specs.Slots.{withParent, withSibling, shaped, isShrink, up, next}
+use Rattle.rules.specs.Act.{say, change, _then_, look, read, alter}
+use Rattle.rules.specs.Slots.{withParent, withSibling, isShrink, up, next}
 use Rattle.rules.specs.Sound.{sound}
 use Rattle.rules.specs.Blossom.{replaceChild}
-use Rattle.rules.specs.Expansion.{stateBy, ringOpened, disposed, expandBlossom, expansion}
+use Rattle.rules.specs.Expansion.{ringOpened, disposed, expandBlossom, expansion}
 use Rattle.rules.specs.Refusals.{lacksCommandRoom, expansionNodeChecks}
 use Rattle.rules.specs.Calls.{verdict}
 use Rattle.rules.specs.Chain.{_∈_}
@@ -31,7 +31,7 @@ use Rattle.rules.specs.FactsOfNodes.{Minus, Plus, OuterChild}
 use Rattle.rules.specs.FactsOfBlossoms.{InnerChild, DefectInside, Inside}
 use Rattle.rules.proofs.Reflect.{and→, tests}
 use Rattle.rules.proofs.ReflectSlots.{outer-not-inner, outer-present, shrink↔, grow-shrink}
-use Rattle.rules.proofs.Past.{outer-below, inner-below, present-some}
+use Rattle.rules.proofs.Past.{outer-below, inner-below}
 use Rattle.rules.proofs.ChildLaws.{first-child, child-of-shrink, shrink-is-minus}
 use Rattle.rules.proofs.InsideLaws.{inside-case, outer-blossom-is, second-outer-holds, second-outer-ring}
 use Rattle.rules.proofs.TouchLaws.{peer-touch-tree}
@@ -39,8 +39,7 @@ use Rattle.rules.proofs.Frames.{some-outer}
 use Rattle.rules.proofs.Renewing.{Whole, SameCounts, put-counts}
 use Rattle.rules.proofs.Cleared.{counts-then}
 use Rattle.rules.proofs.Matches.{RightLink}
-use Rattle.rules.proofs.ReadAs.{slotReadAs}
-use Rattle.rules.proofs.Opened.{headOr, Attached, AttachedDown, InTwo, Opened}
+use Rattle.rules.proofs.Opened.{headOr, Attached, AttachedDown, Opened}
 use Rattle.rules.proofs.OpenedRest.{opened-whole}
 use Rattle.rules.proofs.RingCut.{CutRing, cut-ring}
 use Rattle.rules.proofs.RingTaken.{RingTaken, two-frame}
@@ -192,7 +191,7 @@ module _ (t : Table) (w : Whole t) (b : ℕ) (blossom : t .begin ≤ b) (shrinks
   blossom-cut = cut-ring t b P C (w .rest .rings b (record { blossom = blossom; there = outer-present (at t b .state) b-outer })) (top-held .0) (bottom-held .0)
 
   -- the blossom's link leads from P to the blossom's parent
-  top-right : RightLink t P (at t b .link) above
+  pub top-right : RightLink t P (at t b .link) above
   top-right =
       record {
         linked = is-minus .linked;

@@ -1,7 +1,7 @@
 -- What expansion says: "Expand; then the nodes not attached, matched two by two in ring order; then those attached". One command
 -- for the blossom and one for each node of its ring, so at most 256.
-use mathlib.Core.Path.{_≡_, refl, ap, ap₂, sym, _∙_}
-use mathlib.Core.Logic.{_≢_, _⊎_, inl, inr}
+use mathlib.Core.Path.{_≡_, refl, ap, ap₂, _∙_}
+use mathlib.Core.Logic.{inl, inr}
 use mathlib.Core.Bool.{Bool, false, not}
 use mathlib.Core.List.{List, [], _∷_, _++_, append-nil}
 use Prim.Native.Nat.{ℕ, suc, _+_, _≤_}
@@ -21,7 +21,6 @@ use Rattle.rules.specs.Slots.{up}
 use Rattle.rules.specs.Matching.{temporaryMatch}
 use Rattle.rules.specs.Expansion.{speedBy, attach, ringOpened, expandBlossom, expansion}
 use Rattle.rules.specs.Calls.{verdict}
-use Rattle.rules.specs.Chain.{_∈_}
 use Rattle.rules.proofs.Pigeonhole.{pigeonhole}
 use Rattle.rules.proofs.Past.{outer-below}
 use Rattle.rules.proofs.Renewing.{Whole}

@@ -58,6 +58,7 @@ pub mod RingOpening
 pub mod PlaceInList
 pub mod Expanding
 pub mod ExpansionCommands
+pub mod ExpansionBudgets
 pub mod Resetting
 pub mod TreesInPairs
 pub mod Answering

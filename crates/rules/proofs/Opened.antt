@@ -1,19 +1,16 @@
 -- What taking a − blossom apart leaves, slot by slot, told by the table before: with no budget and no order of stores.
-use mathlib.Core.Path.{_≡_, refl, ap, sym, _∙_}
-use mathlib.Core.Logic.{_≢_, _↔_, _⊎_, inl, inr}
-use mathlib.Core.Bool.{Bool, true, false, not}
+use mathlib.Core.Path.{_≡_}
+use mathlib.Core.Logic.{_≢_, _↔_, _⊎_}
+use mathlib.Core.Bool.{Bool, false, not}
 use mathlib.Core.List.{List, [], _∷_}
 use Prim.Native.Nat.{ℕ, suc, _+_}
-use native.Mathlib.Omega.{arith}
 use lib.Dec.{T}
 use lib.ListN.{length}
-use Rattle.slot.specs.declared.state.State.the-variants as S
-use Rattle.slot.specs.State.{isOuter}
 use Rattle.slot.specs.Number.{none}
-use Rattle.slot.specs.Slot.{Link, Slot, mirror, emptySlot}
+use Rattle.slot.specs.Slot.{Link, mirror, emptySlot}
 use Rattle.table.specs.Table.{Table, at}
 use Rattle.table.proofs.Laws.{Full}
-use Rattle.nodes.specs.Nodes.{outer, inner}
+use Rattle.nodes.specs.Nodes.{outer}
 use Rattle.rules.specs.Slots.{withParent, shaped, up, next}
 use Rattle.rules.specs.Matching.{matchedTo}
 use Rattle.rules.specs.Expansion.{stateBy}

@@ -4,7 +4,6 @@ use mathlib.Core.Logic.{_≢_, _⊎_, inl, inr}
 use mathlib.Core.List.{List, [], _∷_}
 use Prim.Native.Nat.{ℕ}
 use lib.Dec.{T}
-use Rattle.slot.specs.declared.state.State.the-variants as S
 use Rattle.slot.specs.Number.{none}
 use Rattle.table.specs.Table.{Table, at}
 use Rattle.nodes.specs.Nodes.{outer, inner}
@@ -14,17 +13,16 @@ use Rattle.rules.specs.FactsOfNodes.{Paired, Kind, free-node, virtual-no
 use Rattle.rules.specs.Facts.{Core}
 use Rattle.rules.proofs.Reflect.{same-or-not}
 use Rattle.rules.proofs.ReflectSlots.{grow-shrink, stay-shrink, stay-grow}
-use Rattle.rules.proofs.Chains.{chain-frame, chain-next, chain-nodup}
+use Rattle.rules.proofs.Chains.{chain-frame, chain-nodup}
 use Rattle.rules.proofs.KindLaws.{paired-kind}
-use Rattle.rules.proofs.OuterLists.{upward-outer}
 use Rattle.rules.proofs.ChildLaws.{above-outer, first-child, child-of-shrink}
 use Rattle.rules.proofs.WaysUp.{upward-all-outer}
 use Rattle.rules.specs.Trees.{upward}
 use Rattle.rules.proofs.Frames.{some-outer, no-children, one-child, top-upward, next-upward}
 use Rattle.rules.proofs.ReadAs.{readAs, allReadAs, slotReadAs, read-here, read-other, in-read→, →in-read, read-chain}
 use Rattle.rules.proofs.Opened.{Opened}
-use Rattle.rules.proofs.OpenedPlaces.{Place, the-blossom, the-child, other-outer, is-attached, is-matched, no-part, place-of, blossom-outer, blossom-some, attached-inner, matched-inner, top-in, bottom-in, outer-or-inner, inner-some, top-some, read-none, still-none, still-some, child-hangs, child-plus, child-not-blossom, parent-outer-node, parent-not-blossom, parent-way, way-not-blossom, way-not-child, outer-state, outer-child, outer-sibling, still-outer, outer-parent, child-parent, not-below, two-paired, matched-outer}
-use Rattle.rules.proofs.OpenedLimbs.{Limb, limbs, bottom-state, bottom-child, top-parent, top-sibling, attached-outer, attached-ways}
+use Rattle.rules.proofs.OpenedPlaces.{Place, the-blossom, the-child, other-outer, is-attached, is-matched, no-part, place-of, blossom-outer, blossom-some, attached-inner, matched-inner, top-in, bottom-in, outer-or-inner, inner-some, top-some, still-none, still-some, child-hangs, child-plus, child-not-blossom, parent-outer-node, parent-way, way-not-blossom, way-not-child, outer-state, outer-child, outer-sibling, still-outer, outer-parent, child-parent, not-below, two-paired}
+use Rattle.rules.proofs.OpenedLimbs.{limbs, bottom-state, bottom-child, top-parent, top-sibling, attached-outer, attached-ways}
 
 -- nothing on a chain is next after itself
 pub chain-no-self : (f : ℕ → ℕ) (a : ℕ) (cs : List ℕ) → Chain f a cs → (x : ℕ) → x ∈ cs → f x ≢ x
@@ -32,6 +30,12 @@ chain-no-self f a [] c x m e = m
 chain-no-self f a (y ∷ cs) c x (inr m) e = chain-no-self f (f y) cs (c .2) x m e
 chain-no-self f a (y ∷ []) c x (inl q) e = c .1 (c .0 ∙ sym q ∙ sym e ∙ ap f q ∙ c .2)
 chain-no-self f a (y ∷ (z ∷ cs)) c x (inl q) e = chain-nodup f a (y ∷ (z ∷ cs)) c .0 (inl (sym q ∙ sym e ∙ ap f q ∙ c .2 .0))
+
+-- so no node is its own sibling
+pub no-own-sibling : (t : Table) → Core t → (n : ℕ) → T (outer t n) → T (outer t (up t n)) → next t n ≢ n
+no-own-sibling t core n o above =
+    let k = core .children (up t n) above in
+    chain-no-self (next t) (at t (up t n) .firstChild) (k .list) (k .chain) n (k .exact n .1 (o, refl))
 
 module _ {t u : Table} {b : ℕ} (d : Opened t u b) where
   core : Core t
@@ -91,9 +95,7 @@ module _ {t u : Table} {b : ℕ} (d : Opened t u b) where
   -- ---- S5
 
   pub blossom-sibling : next t b ≢ b
-  blossom-sibling =
-      let k = core .children (up t b) (parent-outer-node d) in
-      chain-no-self (next t) (at t (up t b) .firstChild) (k .list) (k .chain) b (k .exact b .1 (blossom-outer d, refl))
+  blossom-sibling = no-own-sibling t core b (blossom-outer d) (parent-outer-node d)
 
   sibling-read : (x : ℕ) → T (outer t x) → next u (readAs b (d .top) x) ≡ readAs b (d .top) (next t x)
   sibling-read x o =

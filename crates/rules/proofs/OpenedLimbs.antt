@@ -1,5 +1,5 @@
 -- The attached nodes of a blossom that is taken apart, each seen from itself.
-use mathlib.Core.Path.{_≡_, refl, ap, sym, _∙_}
+use mathlib.Core.Path.{_≡_, refl, ap, _∙_}
 use mathlib.Core.Logic.{_≢_, _⊎_, inl, inr}
 use mathlib.Core.Bool.{Bool, true, false, not}
 use mathlib.Core.List.{List, [], _∷_}
@@ -15,14 +15,13 @@ use Rattle.nodes.specs.Nodes.{outer}
 use Rattle.rules.specs.Slots.{up, next}
 use Rattle.rules.specs.Expansion.{stateBy}
 use Rattle.rules.specs.Chain.{_∈_}
-use Rattle.rules.specs.FactsOfNodes.{Minus, Plus, Kind, minus-node, plus-node, OuterChild, Upward}
-use Rattle.rules.proofs.ReflectSlots.{grow-shrink}
+use Rattle.rules.specs.FactsOfNodes.{Kind, minus-node, plus-node, OuterChild, Upward}
 use Rattle.rules.proofs.Chains.{endOf}
 use Rattle.rules.proofs.KindLaws.{kind-outer}
 use Rattle.rules.proofs.Frames.{some-outer, next-upward}
 use Rattle.rules.proofs.Matches.{RightLink}
 use Rattle.rules.proofs.Opened.{headOr, Attached, AttachedDown, Opened}
-use Rattle.rules.proofs.OpenedPlaces.{by-state, blossom-outer, child-hangs, child-plus, child-not-blossom, child-parent, parent-outer-node, parent-not-blossom, outer-state, outer-sibling, still-outer, still-none}
+use Rattle.rules.proofs.OpenedPlaces.{by-state, child-hangs, child-plus, child-not-blossom, child-parent, parent-outer-node, parent-not-blossom, outer-state, outer-sibling, still-outer, still-none}
 
 -- its kind; its one child; its parent, of which, but for P, it is the one child; its ring is as it was
 pub record Limb (t u : Table) (top : ℕ) (attached : List ℕ) (x : ℕ) : Type 0 where

@@ -1,17 +1,12 @@
 -- Where each slot stands when a blossom is taken apart, and what the outer nodes of before keep.
 use mathlib.Core.Path.{_≡_, refl, ap, sym, _∙_}
 use mathlib.Core.Logic.{_≢_, _⊎_, inl, inr}
-use mathlib.Core.Bool.{Bool, true, false, not}
+use mathlib.Core.Bool.{Bool, true, false}
 use mathlib.Core.List.{List, [], _∷_}
-use Prim.Native.Nat.{ℕ, zero, suc, _+_}
-use native.Mathlib.Omega.{arith}
+use Prim.Native.Nat.{ℕ}
 use lib.Dec.{T, T-not}
-use lib.ListN.{length}
-use Rattle.slot.specs.declared.state.State.{State}
-use Rattle.slot.specs.declared.state.State.the-variants as S
-use Rattle.slot.specs.State.{isOuter, isInner}
+use Rattle.slot.specs.State.{isOuter}
 use Rattle.slot.specs.Number.{none}
-use Rattle.slot.specs.Slot.{Slot}
 use Rattle.table.specs.Table.{Table, at}
 use Rattle.nodes.specs.Nodes.{outer, inner}
 use Rattle.rules.specs.Slots.{up, next}
@@ -28,8 +23,8 @@ use Rattle.rules.proofs.ChildLaws.{first-child, child-of-shrink, minus-
 use Rattle.rules.proofs.WaysUp.{upward-chain}
 use Rattle.rules.specs.Trees.{upward}
 use Rattle.rules.proofs.Matches.{slots-paired}
-use Rattle.rules.proofs.ReadAs.{readAs, slotReadAs, read-here, read-other, read-some}
-use Rattle.rules.proofs.Opened.{headOr, Attached, AttachedDown, InTwo, Opened}
+use Rattle.rules.proofs.ReadAs.{readAs, read-other, read-some}
+use Rattle.rules.proofs.Opened.{Opened}
 
 -- where a slot stands
 pub data Place (t : Table) (b : ℕ) (attached matched : List ℕ) (j : ℕ) : Type 0 where

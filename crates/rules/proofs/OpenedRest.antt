@@ -1,24 +1,24 @@
 -- Where a blossom is taken apart as `Opened` says, the rest of soundness holds too: S1, S2, S6, S7 of inner nodes, S8.
 use mathlib.Core.Path.{_≡_, refl, ap, sym, subst, _∙_}
 use mathlib.Core.Logic.{_≢_, _⊎_, inl, inr}
-use mathlib.Core.List.{List, [], _∷_}
-use Prim.Native.Nat.{ℕ, zero, suc, _≤_, _<_}
+use mathlib.Core.List.{_∷_}
+use Prim.Native.Nat.{ℕ, zero, suc}
 use native.Mathlib.Omega.{arith}
 use lib.Dec.{T, eqb, T-not}
 use Rattle.lists.specs.Choice.{pick}
 use Rattle.slot.specs.declared.state.State.{State}
 use Rattle.slot.specs.declared.state.State.the-variants as S
-use Rattle.slot.specs.State.{isOuter, isInner, isPresent}
+use Rattle.slot.specs.State.{isOuter, isInner}
 use Rattle.slot.specs.Number.{none}
 use Rattle.slot.specs.Slot.{Link, Slot, emptySlot}
 use Rattle.table.specs.Table.{Table, at}
 use Rattle.nodes.specs.Nodes.{present, outer, inner}
 use Rattle.rules.specs.Slots.{up, next}
 use Rattle.rules.specs.Sound.{nextInRing, farEnd}
-use Rattle.rules.specs.Chain.{_∈_, Chain, Steps}
+use Rattle.rules.specs.Chain.{_∈_, Steps}
 use Rattle.rules.specs.FactsOfNodes.{Paired, Kind, free-node, virtual-node, paired-node, root-node, minus-node, plus-node}
-use Rattle.rules.specs.FactsOfBlossoms.{PresentBlossom, InnerChild, Ring, InBlossom, Inside, DefectInside, Touches}
-use Rattle.rules.specs.Facts.{Sizes, Given, Names, Pointers, Rest}
+use Rattle.rules.specs.FactsOfBlossoms.{PresentBlossom, Ring, DefectInside, Touches}
+use Rattle.rules.specs.Facts.{Given, Names, Pointers, Rest}
 use Rattle.rules.proofs.Reflect.{same-or-not, test-case}
 use Rattle.rules.proofs.ReflectSlots.{outer-present, outer-not-inner, inner-present, stay-shrink}
 use Rattle.rules.proofs.Chains.{chain-frame}

@@ -7,7 +7,6 @@ use Prim.Native.Nat.{ℕ, zero, suc, _≤_, _<_}
 use native.Mathlib.Omega.{arith}
 use lib.Dec.{T}
 use lib.ListN.{length}
-use Rattle.slot.specs.declared.state.State.the-variants as S
 use Rattle.slot.specs.Number.{none}
 use Rattle.slot.specs.Slot.{Slot}
 use Rattle.table.specs.Table.{Table, at, put}
@@ -27,7 +26,7 @@ use Rattle.rules.proofs.Frames.{some-outer}
 use Rattle.rules.proofs.Renewing.{Whole, SameCounts, put-counts}
 use Rattle.rules.proofs.Cleared.{counts-then}
 use Rattle.rules.proofs.ReadAs.{readAs, slotReadAs, read-here, read-other}
-use Rattle.rules.proofs.OpenedCore.{chain-no-self}
+use Rattle.rules.proofs.OpenedCore.{chain-no-self, no-own-sibling}
 
 -- ---- the walk along the list
 
@@ -199,16 +198,13 @@ module _ (t v : Table) (w : Whole t) (full : Full v) (b p : ℕ) (minus : Minus 
       let s = relinked-at 256 v a b p (kids .list) list-in-v b-listed d list-short in
       r .3 ∙ ap (λ (y : ℕ). alter y (withSibling p) v) (chain-injective (next v) a (kids .list) list-in-v (r .0) (s .0) (r .1) (s .1) (r .2 ∙ sym (s .2))) ∙ sym (s .3)
 
-  -- b itself reads as before: it is neither its own child nor its own sibling
-  pub blossom-goes-on : next t b ≢ b
-  blossom-goes-on = chain-no-self (next t) (at t (up t b) .firstChild) (kids .list) (kids .chain) b b-listed
-
   replace-table : replaceChild (up t b) b p v ≡ put (relisted (up t b) b p v) p (withSibling (next (relisted (up t b) b p v) b) (at (relisted (up t b) b p v) p))
   unfolding replaceChild alter
   replace-table = refl
 
+  -- b itself reads as before
   next-in-list : next (relisted (up t b) b p v) b ≡ next t b
-  next-in-list = ap (λ (s : Slot). s .sibling) (relisted-does .outers b outer-b) ∙ read-other b p (next t b) blossom-goes-on
+  next-in-list = ap (λ (s : Slot). s .sibling) (relisted-does .outers b outer-b) ∙ read-other b p (next t b) (no-own-sibling t (w .core) b outer-b outer-q)
 
   pub place-given : ¬ T (outer t p) → p < 256 → PlaceGiven t v (replaceChild (up t b) b p v) b p
   place-given n l =

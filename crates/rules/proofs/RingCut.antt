@@ -1,9 +1,9 @@
 -- The ring of a blossom, told from P and cut at C, and its two parities.
 use mathlib.Core.Path.{_≡_, refl, ap, sym, subst, _∙_}
-use mathlib.Core.Logic.{_≢_, _↔_, _⊎_, inl, inr}
-use mathlib.Core.Bool.{Bool, true, false, not}
+use mathlib.Core.Logic.{_↔_, _⊎_, inl, inr}
+use mathlib.Core.Bool.{Bool, true, false}
 use mathlib.Core.List.{List, [], _∷_, _++_}
-use Prim.Native.Nat.{ℕ, zero, suc, _+_, _%_, _≤_, _<_}
+use Prim.Native.Nat.{ℕ, zero, suc, _+_, _%_, _≤_}
 use native.Mathlib.Omega.{arith}
 use lib.ListN.{length, length-append}
 use Rattle.table.specs.Table.{Table}
@@ -11,11 +11,11 @@ use Rattle.table.proofs.Laws.{Full}
 use Rattle.rules.specs.Slots.{next}
 use Rattle.rules.specs.Chain.{_∈_, NoDup}
 use Rattle.rules.specs.FactsOfBlossoms.{InnerChild, Ring}
-use Rattle.rules.proofs.Members.{in-split, in-append→, in-left, in-right, nodup-append→, →nodup-append}
+use Rattle.rules.proofs.Members.{in-split, in-append→, nodup-append→, →nodup-append}
 use Rattle.rules.proofs.Chains.{endOf}
 use Rattle.rules.proofs.Pigeonhole.{pigeonhole}
 use Rattle.rules.proofs.Past.{inner-below}
-use Rattle.rules.proofs.RingStretches.{Stretch, stretch-cut, RingFrom, ring-from}
+use Rattle.rules.proofs.RingStretches.{Stretch, stretch-cut, ring-from}
 use Rattle.rules.proofs.RingLeft.{turnedOnto, flipped}
 
 -- before stands from p on, up to c and not with it; after stands behind c

@@ -1,10 +1,9 @@
 -- What the loops of expansion leave of the ring: pairs, and a stretch of attached nodes told from the top down in both parities.
 use mathlib.Core.Path.{_≡_, refl, ap, sym, subst, _∙_}
-use mathlib.Core.Logic.{_≢_, _⊎_, inl, inr}
-use mathlib.Core.Bool.{Bool, true, false, not}
-use mathlib.Core.List.{List, [], _∷_, _++_}
-use Prim.Native.Nat.{ℕ, zero, suc, _+_, _<_}
-use native.Mathlib.Omega.{arith}
+use mathlib.Core.Logic.{_≢_, inl, inr}
+use mathlib.Core.Bool.{Bool, not}
+use mathlib.Core.List.{List, [], _∷_}
+use Prim.Native.Nat.{ℕ, _+_, _<_}
 use lib.Dec.{T}
 use lib.ListN.{length}
 use Rattle.slot.specs.Number.{none}
@@ -12,16 +11,16 @@ use Rattle.slot.specs.Slot.{Link, Slot, mirror}
 use Rattle.table.specs.Table.{Table, at, put}
 use Rattle.table.proofs.Laws.{Full, at-put-same, at-put-other, put-full}
 use Rattle.nodes.specs.Nodes.{inner}
-use Rattle.rules.specs.Act.{Act, skip, _then_, look}
+use Rattle.rules.specs.Act.{skip, _then_, look}
 use Rattle.rules.specs.Slots.{shaped, next}
 use Rattle.rules.specs.Matching.{matchedTo, temporaryMatch}
 use Rattle.rules.specs.Expansion.{stateBy, attach}
 use Rattle.rules.specs.Chain.{_∈_, NoDup}
 use Rattle.rules.specs.Facts.{Rest}
 use Rattle.rules.proofs.Past.{inner-below}
-use Rattle.rules.proofs.Renewing.{SameCounts, put-counts, alter-full}
+use Rattle.rules.proofs.Renewing.{SameCounts, put-counts}
 use Rattle.rules.proofs.Cleared.{counts-then, match-counts}
-use Rattle.rules.proofs.Matches.{RightLink, right-mirror, matched-table, match-first, match-second, match-other, match-full}
+use Rattle.rules.proofs.Matches.{RightLink, right-mirror, match-first, match-second, match-other, match-full}
 use Rattle.rules.proofs.Opened.{headOr, Attached, AttachedDown, InTwo}
 use Rattle.rules.proofs.Chains.{endOf}
 use Rattle.rules.proofs.OpenedLimbs.{not-not}

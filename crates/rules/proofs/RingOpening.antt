@@ -1,17 +1,16 @@
 -- `ringOpened` does what its loops do over the lists of the ring's nodes; so do the loops with any larger budget.
-use mathlib.Core.Path.{_≡_, refl, ap, sym, _∙_}
+use mathlib.Core.Path.{_≡_, refl, ap, _∙_}
 use mathlib.Core.Logic.{_⊎_, inl, inr}
-use mathlib.Core.Bool.{true, false}
+use mathlib.Core.Bool.{false}
 use mathlib.Core.List.{List, [], _∷_, _++_}
 use Prim.Native.Nat.{ℕ, suc, _+_, _%_, _≤_}
 use native.Mathlib.Omega.{arith}
-use lib.ListN.{length, length-append}
+use lib.ListN.{length}
 use Rattle.slot.specs.Slot.{Link, Slot}
-use Rattle.table.specs.Table.{Table, at}
+use Rattle.table.specs.Table.{Table}
 use Rattle.rules.specs.Act.{Act, Did, _then_, read, choose}
 use Rattle.rules.specs.Slots.{next}
 use Rattle.rules.specs.Expansion.{stepsTo, matchChain, attachDown, attachUp, ringOpened}
-use Rattle.rules.specs.Chain.{_∈_}
 use Rattle.rules.proofs.Reflect.{eqb-yes, eqb-no, same-or-not}
 use Rattle.rules.proofs.Renewing.{Whole}
 use Rattle.rules.proofs.Matches.{RightLink}
@@ -21,7 +20,7 @@ use Rattle.rules.proofs.RingCut.{CutRing, parts, cut-short, upper-apart
 use Rattle.rules.proofs.RingTaken.{RingTaken, even-after, even-twos, even-taken, from-odd, odd-parts, odd-to-c, odd-twos, odd-taken}
 
 -- two acts in turn that both are the same
-then-both : (f e g h : Act) (v : Table) → f v ≡ e v → g (e v .table) ≡ h (e v .table) → (f then g) v ≡ (e then h) v
+pub then-both : (f e g h : Act) (v : Table) → f v ≡ e v → g (e v .table) ≡ h (e v .table) → (f then g) v ≡ (e then h) v
 unfolding _then_
 then-both f e g h v p q = ap (λ (d : Did). record { table = g (d .table) .table; said = d .said ++ g (d .table) .said }) p ∙ then-same e g h v q
 

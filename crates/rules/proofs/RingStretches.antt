@@ -1,8 +1,8 @@
 -- Stretches of a ring, and the ring told from any of its nodes.
-use mathlib.Core.Path.{_≡_, refl, ap, sym, subst, _∙_}
+use mathlib.Core.Path.{_≡_, refl, ap, sym}
 use mathlib.Core.Logic.{_≢_, _↔_, _⊎_, inl, inr}
 use mathlib.Core.List.{List, [], _∷_, _++_}
-use Prim.Native.Nat.{ℕ, zero, suc, _+_, _%_, _≤_, _<_}
+use Prim.Native.Nat.{ℕ, zero, suc, _+_, _%_}
 use native.Mathlib.Omega.{arith}
 use lib.Dec.{T}
 use lib.ListN.{length, length-append}
@@ -15,10 +15,8 @@ use Rattle.rules.specs.Sound.{nextInRing}
 use Rattle.rules.specs.Chain.{_∈_, NoDup, Chain}
 use Rattle.rules.specs.FactsOfBlossoms.{InnerChild, Ring}
 use Rattle.rules.specs.Facts.{Rest}
-use Rattle.rules.proofs.Reflect.{same-or-not, eqb-yes, eqb-no}
+use Rattle.rules.proofs.Reflect.{same-or-not}
 use Rattle.rules.proofs.Members.{Split, in-split, in-append→, in-left, in-right, nodup-append→, →nodup-append}
-use Rattle.rules.proofs.Pigeonhole.{pigeonhole}
-use Rattle.rules.proofs.Past.{inner-below}
 use Rattle.rules.proofs.RingLaws.{ring-goes-on, ring-comes-back, ring-some, ring-once}
 use Rattle.rules.proofs.TouchLaws.{peer-touch-ring}
 use Rattle.rules.proofs.Matches.{RightLink}
@@ -109,10 +107,6 @@ ring-from t b p r i =
 
     forth : (j : ℕ) → j ∈ (xs ++ (p ∷ ys)) → j ∈ (p ∷ (ys ++ xs))
     forth j m = elim (in-append→ xs (p ∷ ys) j m) [ inl q ↦ inr (in-right ys xs j q) | inr (inl e) ↦ inl e | inr (inr q) ↦ inr (in-left ys xs j q) ]
-
--- no ring has more than 256 nodes
-pub ring-short : (t : Table) (b p : ℕ) → Full t → (r : RingFrom t b p) → length (p ∷ r .later) ≤ 256
-ring-short t b p full r = pigeonhole 256 (p ∷ r .later) (r .once) (λ j m. inner-below t full j (r .exact j .0 m .0))
 
 -- the link of a ring node leads to the next one
 pub ring-link : (t : Table) → Full t → Rest t → (x : ℕ) → T (inner t x) → RightLink t x (at t x .link) (next t x)

@@ -1,33 +1,30 @@
 -- `ringOpened`: the ring is taken apart into a stretch from P down to C and a rest matched two by two, in both parities.
 use mathlib.Core.Path.{_≡_, refl, ap, sym, subst, _∙_}
-use mathlib.Core.Logic.{_≢_, _↔_, _⊎_, inl, inr}
-use mathlib.Core.Bool.{Bool, true, false, not}
+use mathlib.Core.Logic.{_↔_, _⊎_, inl, inr}
+use mathlib.Core.Bool.{Bool, false, not}
 use mathlib.Core.List.{List, [], _∷_, _++_}
-use Prim.Native.Nat.{ℕ, zero, suc, _+_, _%_, _≤_, _<_}
+use Prim.Native.Nat.{ℕ, suc, _+_}
 use native.Mathlib.Omega.{arith}
-use lib.Dec.{T, eqb, T-not}
+use lib.Dec.{T}
 use lib.ListN.{length, length-append}
 use Rattle.slot.specs.Number.{none}
-use Rattle.slot.specs.Slot.{Link, Slot}
+use Rattle.slot.specs.Slot.{Link}
 use Rattle.table.specs.Table.{Table, at}
 use Rattle.table.proofs.Laws.{Full}
 use Rattle.nodes.specs.Nodes.{inner}
-use Rattle.rules.specs.Act.{Act, Did, _then_, read, choose}
 use Rattle.rules.specs.Slots.{next}
-use Rattle.rules.specs.Expansion.{stepsTo, matchChain, attachDown, attachUp, ringOpened}
 use Rattle.rules.specs.Chain.{_∈_, NoDup}
 use Rattle.rules.specs.FactsOfBlossoms.{InnerChild}
-use Rattle.rules.proofs.Reflect.{eqb-yes, eqb-no, same-or-not}
-use Rattle.rules.proofs.Members.{in-append→, in-left, in-right, nodup-append→, →nodup-append}
+use Rattle.rules.proofs.Members.{in-append→, in-left, in-right, →nodup-append}
 use Rattle.rules.proofs.Chains.{endOf}
 use Rattle.rules.proofs.Renewing.{Whole, SameCounts}
 use Rattle.rules.proofs.Cleared.{counts-then}
 use Rattle.rules.proofs.Matches.{RightLink}
 use Rattle.rules.proofs.Opened.{headOr, AttachedDown, InTwo}
-use Rattle.rules.proofs.RingStretches.{Stretch, stretch-join, odd-half}
-use Rattle.rules.proofs.RingLoops.{then-same, twoByTwo, hungDown, hungUp, steps-are, match-chain-is, attach-down-is, attach-up-is}
-use Rattle.rules.proofs.RingLeft.{ButAt, StillInner, turnedOnto, flipped, two-by-two-does, hung-down-does, hung-up-does}
-use Rattle.rules.proofs.RingCut.{CutRing, parts, cut-short, from-top, upper-once, upper-apart, top-in-upper, even-half, even-left, in-turned→, →in-turned, turned-length, turned-first, turned-end, end-append, flipped-even}
+use Rattle.rules.proofs.RingStretches.{Stretch, stretch-join}
+use Rattle.rules.proofs.RingLoops.{twoByTwo, hungDown, hungUp}
+use Rattle.rules.proofs.RingLeft.{ButAt, turnedOnto, flipped, two-by-two-does, hung-down-does, hung-up-does}
+use Rattle.rules.proofs.RingCut.{CutRing, parts, from-top, upper-once, upper-apart, even-left, in-turned→, →in-turned, turned-length, turned-first, turned-end, end-append, flipped-even}
 
 -- v is t with the ring of b taken apart; P hangs below above, and C has below as child
 pub record RingTaken (t v : Table) (b p c above below : ℕ) : Type 0 where
