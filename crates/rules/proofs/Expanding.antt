@@ -37,8 +37,8 @@ use Rattle.rules.proofs.InsideLaws.{inside-case, outer-blossom-is, seco
 use Rattle.rules.proofs.TouchLaws.{peer-touch-tree}
 use Rattle.rules.proofs.Frames.{some-outer}
 use Rattle.rules.proofs.Renewing.{Whole, SameCounts, put-counts}
-use Rattle.rules.proofs.Cleared.{counts-then}
 use Rattle.rules.proofs.Matches.{RightLink}
+use Rattle.rules.proofs.Cleared.{counts-then}
 use Rattle.rules.proofs.Opened.{headOr, Attached, AttachedDown, Opened}
 use Rattle.rules.proofs.OpenedRest.{opened-whole}
 use Rattle.rules.proofs.RingCut.{CutRing, cut-ring}

@@ -97,10 +97,10 @@ module _ (t : Table) (w : Whole t) (b : ℕ) (blossom : t .begin ≤ b) (shrinks
       let q = even-after t w b topNode bottomNode ringNodes h e in
       expand-first
       ∙ ap (λ (l : List Record). expand b ∷ l)
-        (rw (opened-even t w b topNode bottomNode ringNodes (up t b) (at t b .firstChild) (at t b .link) h e)
-        (both-say (twoByTwo (ringNodes .after)) down t (allStay (ringNodes .after)) (inTurn false (ringNodes .before ++ (bottomNode ∷ [])))
-        (two-by-two-says (ringNodes .after) (q .0) (q .1) t)
-        (hung-down-says (at t b .firstChild) false (up t b) (at t b .link) (ringNodes .before ++ (bottomNode ∷ [])) (twoByTwo (ringNodes .after) t .table))))
+      (rw (opened-even t w b topNode bottomNode ringNodes (up t b) (at t b .firstChild) (at t b .link) h e)
+      (both-say (twoByTwo (ringNodes .after)) down t (allStay (ringNodes .after)) (inTurn false (ringNodes .before ++ (bottomNode ∷ [])))
+      (two-by-two-says (ringNodes .after) (q .0) (q .1) t)
+      (hung-down-says (at t b .firstChild) false (up t b) (at t b .link) (ringNodes .before ++ (bottomNode ∷ [])) (twoByTwo (ringNodes .after) t .table))))
 
   -- "If odd: from C along the ring to P, set from C; unattached start after P."
   pub odd-says :
@@ -114,10 +114,10 @@ module _ (t : Table) (w : Whole t) (b : ℕ) (blossom : t .begin ≤ b) (shrinks
       let up-again = hungUp (up t b) (at t b .link) false (at t b .firstChild) raised in
       expand-first
       ∙ ap (λ (l : List Record). expand b ∷ l)
-        (rw (opened-odd t w b topNode bottomNode ringNodes (up t b) (at t b .firstChild) (at t b .link) ms is h e)
-        (both-say (twoByTwo ms) up-again t (allStay ms) (inTurn false raised)
-        (two-by-two-says ms h e t)
-        (hung-up-says (up t b) (at t b .link) false (at t b .firstChild) raised (twoByTwo ms t .table))))
+      (rw (opened-odd t w b topNode bottomNode ringNodes (up t b) (at t b .firstChild) (at t b .link) ms is h e)
+      (both-say (twoByTwo ms) up-again t (allStay ms) (inTurn false raised)
+      (two-by-two-says ms h e t)
+      (hung-up-says (up t b) (at t b .link) false (at t b .firstChild) raised (twoByTwo ms t .table))))
 
   -- one for the blossom and one for each node of its ring
   pub says-length : length (expansion b t .said) ≡ suc (length (ringNodes .before ++ (bottomNode ∷ ringNodes .after)))

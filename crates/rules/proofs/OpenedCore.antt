@@ -8,6 +8,7 @@ use Rattle.slot.specs.Number.{none}
 use Rattle.table.specs.Table.{Table, at}
 use Rattle.nodes.specs.Nodes.{outer, inner}
 use Rattle.rules.specs.Slots.{up, next}
+use Rattle.rules.specs.Trees.{upward}
 use Rattle.rules.specs.Chain.{_∈_, Chain}
 use Rattle.rules.specs.FactsOfNodes.{Paired, Kind, free-node, virtual-node, paired-node, root-node, minus-node, plus-node, OuterChild, Children, Upward}
 use Rattle.rules.specs.Facts.{Core}
@@ -17,7 +18,6 @@ use Rattle.rules.proofs.Chains.{chain-frame, chain-nodup}
 use Rattle.rules.proofs.KindLaws.{paired-kind}
 use Rattle.rules.proofs.ChildLaws.{above-outer, first-child, child-of-shrink}
 use Rattle.rules.proofs.WaysUp.{upward-all-outer}
-use Rattle.rules.specs.Trees.{upward}
 use Rattle.rules.proofs.Frames.{some-outer, no-children, one-child, top-upward, next-upward}
 use Rattle.rules.proofs.ReadAs.{readAs, allReadAs, slotReadAs, read-here, read-other, in-read→, →in-read, read-chain}
 use Rattle.rules.proofs.Opened.{Opened}

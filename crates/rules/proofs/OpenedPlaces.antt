@@ -10,18 +10,18 @@ use Rattle.slot.specs.Number.{none}
 use Rattle.table.specs.Table.{Table, at}
 use Rattle.nodes.specs.Nodes.{outer, inner}
 use Rattle.rules.specs.Slots.{up, next}
+use Rattle.rules.specs.Trees.{upward}
 use Rattle.rules.specs.Expansion.{stateBy}
 use Rattle.rules.specs.Chain.{_∈_, Chain}
 use Rattle.rules.specs.FactsOfNodes.{Plus, Paired, OuterChild}
 use Rattle.rules.specs.FactsOfBlossoms.{InnerChild}
 use Rattle.rules.proofs.Reflect.{same-or-not, test-case}
 use Rattle.rules.proofs.ReflectSlots.{outer-not-inner, inner-present, grow-shrink}
-use Rattle.rules.proofs.Chains.{endOf, chain-nodup, chain-start, chain-next}
+use Rattle.rules.proofs.Chains.{endOf, chain-nodup, chain-next}
 use Rattle.rules.proofs.Past.{present-some}
-use Rattle.rules.proofs.Frames.{in-or-not, some-outer}
 use Rattle.rules.proofs.ChildLaws.{first-child, child-of-shrink, minus-only}
 use Rattle.rules.proofs.WaysUp.{upward-chain}
-use Rattle.rules.specs.Trees.{upward}
+use Rattle.rules.proofs.Frames.{in-or-not, some-outer}
 use Rattle.rules.proofs.Matches.{slots-paired}
 use Rattle.rules.proofs.ReadAs.{readAs, read-other, read-some}
 use Rattle.rules.proofs.Opened.{Opened}
@@ -118,9 +118,6 @@ module _ {t u : Table} {b : ℕ} (d : Opened t u b) where
   way-not-child j m e =
       let f : up t j ≡ b = ap (up t) e ∙ child-hangs .1 in
       way-not-blossom (rw f at (chain-next (up t) (up t b) (upward t (up t b)) parent-way j m (λ z. blossom-some (sym f ∙ z))))
-
-  pub parent-not-child : up t b ≢ at t b .firstChild
-  parent-not-child = way-not-child (up t b) (chain-start (up t) (up t b) (upward t (up t b)) parent-way (some-outer t (d .whole .full) (up t b) parent-outer-node))
 
   -- ---- what the outer nodes of before keep
 

@@ -12,8 +12,8 @@ use Rattle.rules.specs.Slots.{next}
 use Rattle.rules.specs.Chain.{_∈_, NoDup}
 use Rattle.rules.specs.FactsOfBlossoms.{InnerChild, Ring}
 use Rattle.rules.proofs.Members.{in-split, in-append→, nodup-append→, →nodup-append}
-use Rattle.rules.proofs.Chains.{endOf}
 use Rattle.rules.proofs.Pigeonhole.{pigeonhole}
+use Rattle.rules.proofs.Chains.{endOf}
 use Rattle.rules.proofs.Past.{inner-below}
 use Rattle.rules.proofs.RingStretches.{Stretch, stretch-cut, ring-from}
 use Rattle.rules.proofs.RingLeft.{turnedOnto, flipped}

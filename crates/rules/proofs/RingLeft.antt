@@ -17,12 +17,12 @@ use Rattle.rules.specs.Matching.{matchedTo, temporaryMatch}
 use Rattle.rules.specs.Expansion.{stateBy, attach}
 use Rattle.rules.specs.Chain.{_∈_, NoDup}
 use Rattle.rules.specs.Facts.{Rest}
+use Rattle.rules.proofs.Chains.{endOf}
 use Rattle.rules.proofs.Past.{inner-below}
 use Rattle.rules.proofs.Renewing.{SameCounts, put-counts}
-use Rattle.rules.proofs.Cleared.{counts-then, match-counts}
 use Rattle.rules.proofs.Matches.{RightLink, right-mirror, match-first, match-second, match-other, match-full}
+use Rattle.rules.proofs.Cleared.{counts-then, match-counts}
 use Rattle.rules.proofs.Opened.{headOr, Attached, AttachedDown, InTwo}
-use Rattle.rules.proofs.Chains.{endOf}
 use Rattle.rules.proofs.OpenedLimbs.{not-not}
 use Rattle.rules.proofs.RingStretches.{Stretch, ring-link}
 use Rattle.rules.proofs.RingLoops.{twoByTwo, hungDown, hungUp, attach-table, not-odd, half-less}
@@ -140,7 +140,7 @@ module _ (t : Table) (full-t : Full t) (rest : Rest t) where
       off z m = let r = in-t z (inr (inr m)) in (r .0, match-other v x (at v x .link) y z (λ q. d .0 (inr (rw q at m))) (λ q. d .1 .0 (rw q at m)) ∙ r .1)
 
       go : ButAt after (twoByTwo xs after .table) xs × ((z : ℕ) → z ∈ xs → InTwo t (twoByTwo xs after .table) xs z)
-         → ButAt v (twoByTwo (x ∷ (y ∷ xs)) v .table) (x ∷ (y ∷ xs)) × ((z : ℕ) → z ∈ (x ∷ (y ∷ xs)) → InTwo t (twoByTwo (x ∷ (y ∷ xs)) v .table) (x ∷ (y ∷ xs)) z)
+          → ButAt v (twoByTwo (x ∷ (y ∷ xs)) v .table) (x ∷ (y ∷ xs)) × ((z : ℕ) → z ∈ (x ∷ (y ∷ xs)) → InTwo t (twoByTwo (x ∷ (y ∷ xs)) v .table) (x ∷ (y ∷ xs)) z)
       go r = rw (two-by-two-next x y xs v) (two-more v (twoByTwo xs after .table) x y xs full d in-t (s .1 .0) (r .0) (r .1))
 
   -- ---- one node attached, then others

@@ -98,7 +98,7 @@ match-chain-is (suc k) t v end a (x ∷ (y ∷ xs)) h s d n same e l = step (mat
         ∙ ap (λ (j : ℕ). (temporaryMatch j (at v j .link) (next v j) then matchChain k end (next v (next v j))) v) (s .0)
         ∙ ap (λ (j : ℕ). (temporaryMatch x (at v x .link) j then matchChain k end (next v j)) v) to-y
         ∙ then-same (temporaryMatch x (at v x .link) y) (matchChain k end (next v y)) (twoByTwo xs) v
-          (ih (rw (same y (inr (inl refl))) (s .1 .1)) (d .1 .1) (λ m. n (inr (inr m))) off (half-less (length xs) h e .1) (omega arith))
+        (ih (rw (same y (inr (inl refl))) (s .1 .1)) (d .1 .1) (λ m. n (inr (inr m))) off (half-less (length xs) h e .1) (omega arith))
         ∙ sym (two-by-two-goes x y xs v)
 
 -- ---- "P up to C along the ring"
@@ -165,7 +165,7 @@ attach-down-is (suc k) t v c below grow parent l a (x ∷ xs) s d n same e =
         attach-down-goes k c below grow parent l a v a-not-c
         ∙ ap (λ (j : ℕ). (attach j grow parent (next v j) l then attachDown k c below (not grow) j (mirror (at v j .link)) (next v j)) v) (s .0)
         ∙ then-same (attach x grow parent (next v x) l) (attachDown k c below (not grow) x (mirror (at v x .link)) (next v x)) (hungDown below (not grow) x (mirror (at v x .link)) (xs ++ (c ∷ []))) v
-          (ih further (d .1) (λ m. n (inr m)) off (omega arith))
+        (ih further (d .1) (λ m. n (inr m)) off (omega arith))
         ∙ ap (λ (j : ℕ). (attach x grow parent j l then hungDown below (not grow) x (mirror (at v x .link)) (xs ++ (c ∷ []))) v) (sym (stretch-first t (next v x) xs c below further))
         ∙ sym (hung-down-goes below grow parent l x (xs ++ (c ∷ [])) v)
 
@@ -231,6 +231,6 @@ attach-up-is (suc k) t v p above l grow child a (x ∷ xs) s d n same e = step (
         attach-up-goes k p above l grow child a v a-not-p
         ∙ ap (λ (j : ℕ). (attach j grow (next v j) child (at v j .link) then attachUp k p above l (not grow) j (next v j)) v) (s .0)
         ∙ then-same (attach x grow (next v x) child (at v x .link)) (attachUp k p above l (not grow) x (next v x)) (hungUp above l (not grow) x (xs ++ (p ∷ []))) v
-          (ih further (d .1) (λ m. n (inr m)) off (omega arith))
+        (ih further (d .1) (λ m. n (inr m)) off (omega arith))
         ∙ ap (λ (j : ℕ). (attach x grow j child (at v x .link) then hungUp above l (not grow) x (xs ++ (p ∷ []))) v) (sym (stretch-first t (next v x) xs p none further))
         ∙ sym (hung-up-goes above l grow child x xs p v)

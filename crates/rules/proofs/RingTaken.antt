@@ -18,8 +18,8 @@ use Rattle.rules.specs.FactsOfBlossoms.{InnerChild}
 use Rattle.rules.proofs.Members.{in-append→, in-left, in-right, →nodup-append}
 use Rattle.rules.proofs.Chains.{endOf}
 use Rattle.rules.proofs.Renewing.{Whole, SameCounts}
-use Rattle.rules.proofs.Cleared.{counts-then}
 use Rattle.rules.proofs.Matches.{RightLink}
+use Rattle.rules.proofs.Cleared.{counts-then}
 use Rattle.rules.proofs.Opened.{headOr, AttachedDown, InTwo}
 use Rattle.rules.proofs.RingStretches.{Stretch, stretch-join}
 use Rattle.rules.proofs.RingLoops.{twoByTwo, hungDown, hungUp}
