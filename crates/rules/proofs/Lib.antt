@@ -42,6 +42,10 @@ pub mod Augmenting
 pub mod WholeTrees
 pub mod Rows
 pub mod Resolving
+pub mod TwoPaths
+pub mod MadeBlossom
+pub mod MadeSlots
+pub mod MadeTree
 pub mod Accepting
 pub mod Resetting
 pub mod TreesInPairs
