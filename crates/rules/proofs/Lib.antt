@@ -46,6 +46,7 @@ pub mod TwoPaths
 pub mod MadeBlossom
 pub mod MadeSlots
 pub mod MadeTree
+pub mod MadeInside
 pub mod Accepting
 pub mod Resetting
 pub mod TreesInPairs
