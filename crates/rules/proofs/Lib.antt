@@ -47,6 +47,7 @@ pub mod MadeBlossom
 pub mod MadeSlots
 pub mod MadeTree
 pub mod MadeInside
+pub mod Adopting
 pub mod Accepting
 pub mod Resetting
 pub mod TreesInPairs
