@@ -48,6 +48,7 @@ pub mod MadeSlots
 pub mod MadeTree
 pub mod MadeInside
 pub mod Adopting
+pub mod RingOfPaths
 pub mod Accepting
 pub mod Resetting
 pub mod TreesInPairs

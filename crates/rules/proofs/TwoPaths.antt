@@ -51,13 +51,23 @@ module _ (f : ℕ → ℕ) where
 
 -- ---- states along a tree
 
-module _ (t : Table) (full : Full t) (core : Core t) where
-  -- a node with a parent has a full link, and its parent the other state
-  pub record Limb (n : ℕ) : Type 0 where
-    pub linked : FullLink (at t n .link)
-    pub turns : ((at t n .state ≡ S.Grow) × (at t (up t n) .state ≡ S.Shrink)) ⊎ ((at t n .state ≡ S.Shrink) × (at t (up t n) .state ≡ S.Grow))
+-- a node with a parent has a full link, and its parent the other state
+pub record Limb (t : Table) (n : ℕ) : Type 0 where
+  pub linked : FullLink (at t n .link)
+  pub turns : ((at t n .state ≡ S.Grow) × (at t (up t n) .state ≡ S.Shrink)) ⊎ ((at t n .state ≡ S.Shrink) × (at t (up t n) .state ≡ S.Grow))
 
-  limb-of : (n : ℕ) → up t n ≢ none → Kind t n → Limb n
+-- the paths from x and y up to m: their own parts, and what they share above m
+pub record TwoPaths (t : Table) (x y m : ℕ) : Type 0 where
+  pub xs : List ℕ
+  pub ys : List ℕ
+  pub above : List ℕ
+  pub way-1 : Chain (up t) x (xs ++ (m ∷ above))
+  pub way-2 : Chain (up t) y (ys ++ (m ∷ above))
+  pub apart : (j : ℕ) → j ∈ xs → ¬ (j ∈ ys)
+  pub grows : at t m .state ≡ S.Grow
+
+module _ (t : Table) (full : Full t) (core : Core t) where
+  limb-of : (n : ℕ) → up t n ≢ none → Kind t n → Limb t n
   limb-of n d (free-node f) = absurd (d (f .parentless))
   limb-of n d (virtual-node v) = absurd (d (v .parentless))
   limb-of n d (paired-node p) = absurd (d (p .here .parentless))
@@ -65,7 +75,7 @@ module _ (t : Table) (full : Full t) (core : Core t) where
   limb-of n d (minus-node m) = record { linked = m .linked; turns = inr (m .shrinks, m .parent-grows) }
   limb-of n d (plus-node p) = record { linked = p .linked; turns = inl (p .grows, p .parent-shrinks) }
 
-  pub limb : (n : ℕ) → T (outer t n) → up t n ≢ none → Limb n
+  pub limb : (n : ℕ) → T (outer t n) → up t n ≢ none → Limb t n
   limb n o d = limb-of n d (core .kind n o)
 
   pub above-grow : (n : ℕ) → at t n .state ≡ S.Grow → up t n ≢ none → at t (up t n) .state ≡ S.Shrink
@@ -92,15 +102,6 @@ module _ (t : Table) (full : Full t) (core : Core t) where
       two-more r = (suc (r .0), omega (arith, r .1))
 
   -- ---- the two paths
-
-  pub record TwoPaths (x y m : ℕ) : Type 0 where
-    pub xs : List ℕ
-    pub ys : List ℕ
-    pub above : List ℕ
-    pub way-1 : Chain (up t) x (xs ++ (m ∷ above))
-    pub way-2 : Chain (up t) y (ys ++ (m ∷ above))
-    pub apart : (j : ℕ) → j ∈ xs → ¬ (j ∈ ys)
-    pub grows : at t m .state ≡ S.Grow
 
   module _ (x y m : ℕ) (grows-1 : at t x .state ≡ S.Grow) (grows-2 : at t y .state ≡ S.Grow) (found : FirstShared (upward t x) (upward t y) m) where
     outer-1 : T (outer t x)
@@ -160,7 +161,7 @@ module _ (t : Table) (full : Full t) (core : Core t) where
             between (p .0) (q .0) (p .1) (q .1) (upward-all-outer t full core x outer-1 (p .0) (on-first (p .0) (p .1)), p .2)
             (upward-all-outer t full core y outer-2 (q .0) (on-second (q .0) (q .1)), q .2) (core .kind m meeting-outer)
 
-    pub two-paths : TwoPaths x y m
+    pub two-paths : TwoPaths t x y m
     two-paths =
         record {
           xs = found .before;
