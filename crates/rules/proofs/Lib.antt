@@ -49,6 +49,7 @@ pub mod MadeTree
 pub mod MadeInside
 pub mod Adopting
 pub mod RingOfPaths
+pub mod Placing
 pub mod Accepting
 pub mod Resetting
 pub mod TreesInPairs
