@@ -50,6 +50,7 @@ pub mod MadeInside
 pub mod Adopting
 pub mod RingOfPaths
 pub mod Placing
+pub mod Gathering
 pub mod Accepting
 pub mod Resetting
 pub mod TreesInPairs
