@@ -51,6 +51,7 @@ pub mod Adopting
 pub mod RingOfPaths
 pub mod Placing
 pub mod Gathering
+pub mod Ringing
 pub mod Accepting
 pub mod Resetting
 pub mod TreesInPairs
