@@ -52,6 +52,7 @@ pub mod RingOfPaths
 pub mod Placing
 pub mod Gathering
 pub mod Ringing
+pub mod RoundTheRing
 pub mod Accepting
 pub mod Resetting
 pub mod TreesInPairs

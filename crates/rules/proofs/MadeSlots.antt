@@ -3,7 +3,7 @@
 use mathlib.Core.Path.{_≡_, refl, ap, sym, _∙_}
 use mathlib.Core.Logic.{_≢_, _⊎_, inl, inr}
 use mathlib.Core.List.{List}
-use Prim.Native.Nat.{ℕ, _<_}
+use Prim.Native.Nat.{ℕ, _+_, _<_}
 use native.Mathlib.Omega.{arith}
 use lib.Dec.{T}
 use Rattle.slot.specs.declared.state.State.{State}
@@ -16,7 +16,7 @@ use Rattle.nodes.specs.Nodes.{present, outer}
 use Rattle.rules.specs.Slots.{withFirstChild, up, next}
 use Rattle.rules.specs.Chain.{_∈_}
 use Rattle.rules.specs.FactsOfNodes.{Minus, Kind, free-node, virtual-node, paired-node, root-node, minus-node, plus-node, OuterChild}
-use Rattle.rules.specs.Facts.{Given}
+use Rattle.rules.specs.Facts.{Given, Core, Rest}
 use Rattle.rules.proofs.Reflect.{same-or-not}
 use Rattle.rules.proofs.ReflectSlots.{grow-shrink, stay-grow, outer-present}
 use Rattle.rules.proofs.Chains.{chain-start, chain-next}
@@ -27,16 +27,31 @@ use Rattle.rules.proofs.Renewing.{Whole}
 use Rattle.rules.proofs.TwoPaths.{above-grow}
 use Rattle.rules.proofs.MadeBlossom.{InTree, Made}
 
+-- the next slot's number is larger than all that are present
+pub below-next : (t : Table) → Rest t → (j : ℕ) → T (present t j) → j < t .begin + t .blossoms
+below-next t rest j p = go (rest .given j p)
+  where
+    go : Given t j → j < t .begin + t .blossoms
+    go (inl l) = omega (arith, l, rest .sizes .defects-fit)
+    go (inr g) = g .1
+
+-- a Grow node has no sibling
+grow-lacks : (t : Table) (n : ℕ) → at t n .state ≡ S.Grow → Kind t n → next t n ≡ none
+grow-lacks t n g (free-node f) = f .siblingless
+grow-lacks t n g (virtual-node v) = absurd (stay-grow (v .stays) g)
+grow-lacks t n g (paired-node p) = absurd (stay-grow (p .here .stays) g)
+grow-lacks t n g (root-node r) = r .siblingless
+grow-lacks t n g (minus-node m) = absurd (grow-shrink g (m .shrinks))
+grow-lacks t n g (plus-node p) = p .siblingless
+
+pub grow-siblingless : (t : Table) → Core t → (n : ℕ) → at t n .state ≡ S.Grow → next t n ≡ none
+grow-siblingless t core n g = grow-lacks t n g (core .kind n (rw g tt))
+
 module _ (t u : Table) (b m : ℕ) (ring moved : List ℕ) (w : Whole t) (d : Made t u b m ring moved) where
   -- ---- before
 
-  -- the new slot's number is larger than all that are present
-  given-less : (j : ℕ) → Given t j → j < b
-  given-less j (inl l) = omega (arith, l, w .rest .sizes .defects-fit, d .slot)
-  given-less j (inr g) = omega (arith, g .1, d .slot)
-
   pub present-less : (j : ℕ) → T (present t j) → j < b
-  present-less j p = given-less j (w .rest .given j p)
+  present-less j p = omega (arith, below-next t (w .rest) j p, d .slot)
 
   pub outer-less : (j : ℕ) → T (outer t j) → j < b
   outer-less j o = present-less j (outer-present (at t j .state) o)
@@ -85,16 +100,8 @@ module _ (t u : Table) (b m : ℕ) (ring moved : List ℕ) (w : Whole t) (d : Ma
     pub above-not-moved : ¬ (up t m ∈ moved)
     above-not-moved i = above-twice (d .exact (up t m) .0 i .1)
 
-  sibling-none : Kind t m → next t m ≡ none
-  sibling-none (free-node f) = f .siblingless
-  sibling-none (virtual-node v) = absurd (stay-grow (v .stays) (d .before .grows))
-  sibling-none (paired-node p) = absurd (stay-grow (p .here .stays) (d .before .grows))
-  sibling-none (root-node r) = r .siblingless
-  sibling-none (minus-node n) = absurd (grow-shrink (d .before .grows) (n .shrinks))
-  sibling-none (plus-node p) = p .siblingless
-
   pub meeting-siblingless : next t m ≡ none
-  meeting-siblingless = sibling-none (w .core .kind m meeting-outer)
+  meeting-siblingless = grow-siblingless t (w .core) m (d .before .grows)
 
   -- a moved child is a − node
   pub moved-minus : (j : ℕ) → j ∈ moved → Minus t (at t j)
