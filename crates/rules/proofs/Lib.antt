@@ -53,6 +53,7 @@ pub mod Placing
 pub mod Gathering
 pub mod Ringing
 pub mod RoundTheRing
+pub mod Making
 pub mod Accepting
 pub mod Resetting
 pub mod TreesInPairs

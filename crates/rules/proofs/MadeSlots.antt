@@ -12,6 +12,7 @@ use Rattle.slot.specs.State.{isOuter}
 use Rattle.slot.specs.Number.{none}
 use Rattle.slot.specs.Slot.{Slot}
 use Rattle.table.specs.Table.{Table, at}
+use Rattle.table.proofs.Laws.{Full}
 use Rattle.nodes.specs.Nodes.{present, outer}
 use Rattle.rules.specs.Slots.{withFirstChild, up, next}
 use Rattle.rules.specs.Chain.{_∈_}
@@ -46,6 +47,12 @@ grow-lacks t n g (plus-node p) = p .siblingless
 
 pub grow-siblingless : (t : Table) → Core t → (n : ℕ) → at t n .state ≡ S.Grow → next t n ≡ none
 grow-siblingless t core n g = grow-lacks t n g (core .kind n (rw g tt))
+
+-- the parent of the meeting node's parent is not in the ring
+pub twice-above : (t : Table) → Full t → (m : ℕ) (ring : List ℕ) → InTree t m ring → up t m ≢ none → ¬ (up t (up t m) ∈ ring)
+twice-above t full m ring before has i =
+    before .off (up t (up t m))
+    (chain-next (up t) (up t m) (before .above) (before .way) (up t m) (chain-start (up t) (up t m) (before .above) (before .way) has) (some-outer t full (up t (up t m)) (before .outers (up t (up t m)) i))) i
 
 module _ (t u : Table) (b m : ℕ) (ring moved : List ℕ) (w : Whole t) (d : Made t u b m ring moved) where
   -- ---- before
@@ -91,11 +98,8 @@ module _ (t u : Table) (b m : ℕ) (ring moved : List ℕ) (w : Whole t) (d : Ma
     pub above-off-ring : ¬ (up t m ∈ ring)
     above-off-ring = d .before .off (up t m) (chain-start (up t) (up t m) (d .before .above) (d .before .way) has)
 
-    -- its own parent is not in the ring either
     pub above-twice : ¬ (up t (up t m) ∈ ring)
-    above-twice i =
-        d .before .off (up t (up t m))
-        (chain-next (up t) (up t m) (d .before .above) (d .before .way) (up t m) (chain-start (up t) (up t m) (d .before .above) (d .before .way) has) (ring-some (up t (up t m)) i)) i
+    above-twice = twice-above t (w .full) m ring (d .before) has
 
     pub above-not-moved : ¬ (up t m ∈ moved)
     above-not-moved i = above-twice (d .exact (up t m) .0 i .1)

@@ -213,7 +213,7 @@ module _ (t : Table) (x y m : ℕ) (w : Whole t) (grows-1 : at t x .state ≡ S.
       go (on-second k) = off-second j k (inr i)
 
   -- m's parent is not in the ring
-  no-ring-above : ¬ (up t m ∈ ring)
+  pub no-ring-above : ¬ (up t m ∈ ring)
   no-ring-above i = off-above (up t m) (chain-start (up t) (up t m) (p .above) (meeting-way .2) (some-on (up t m) i)) i
 
   ring-upward : (j : ℕ) → j ∈ ring → j ≢ m → up t j ∈ ring
