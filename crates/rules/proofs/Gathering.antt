@@ -27,14 +27,39 @@ use Rattle.rules.proofs.Placing.{Placed}
 
 -- ---- the walks, a step at a time
 
-upto-end : (k b m below n : ℕ) (v : Table) → n ≡ m → movedUpTo k b m below n v ≡ v
-unfolding movedUpTo choose
-upto-end zero b m below n v e = refl
-upto-end (suc k) b m below n v e = rw (eqb-yes n m e)
+-- `movedUpTo` with a budget for the child lists too
+unfoldable pub movedUpToBy : ℕ → ℕ → ℕ → ℕ → ℕ → ℕ → Table → Table
+movedUpToBy lists zero b m below n t = t
+movedUpToBy lists (suc k) b m below n t =
+    choose (eqb n m) same (λ u. movedUpToBy lists k b m n (up u n) (moved lists b below below (at u n .firstChild) u)) t
 
-upto-on : (k b m below n : ℕ) (v : Table) → n ≢ m → movedUpTo (suc k) b m below n v ≡ movedUpTo k b m n (up v n) (moved 256 b below below (at v n .firstChild) v)
+upto-end : (lists k b m below n : ℕ) (v : Table) → n ≡ m → movedUpToBy lists k b m below n v ≡ v
+unfolding movedUpToBy choose
+upto-end lists zero b m below n v e = refl
+upto-end lists (suc k) b m below n v e = rw (eqb-yes n m e)
+
+upto-on : (lists k b m below n : ℕ) (v : Table) → n ≢ m → movedUpToBy lists (suc k) b m below n v ≡ movedUpToBy lists k b m n (up v n) (moved lists b below below (at v n .firstChild) v)
+unfolding movedUpToBy choose
+upto-on lists k b m below n v d = rw (eqb-no n m d)
+
+rule-end : (k b m below n : ℕ) (v : Table) → n ≡ m → movedUpTo k b m below n v ≡ v
 unfolding movedUpTo choose
-upto-on k b m below n v d = rw (eqb-no n m d)
+rule-end zero b m below n v e = refl
+rule-end (suc k) b m below n v e = rw (eqb-yes n m e)
+
+rule-on : (k b m below n : ℕ) (v : Table) → n ≢ m → movedUpTo (suc k) b m below n v ≡ movedUpTo k b m n (up v n) (moved 256 b below below (at v n .firstChild) v)
+unfolding movedUpTo choose
+rule-on k b m below n v d = rw (eqb-no n m d)
+
+-- .. which the rule has as 256
+pub lists-of-256 : (k b m below n : ℕ) (v : Table) → movedUpTo k b m below n v ≡ movedUpToBy 256 k b m below n v
+unfolding movedUpTo movedUpToBy
+lists-of-256 zero b m below n v = refl
+lists-of-256 (suc k) b m below n v =
+    elim (same-or-not n m) [
+      | inl e ↦ rule-end (suc k) b m below n v e ∙ sym (upto-end 256 (suc k) b m below n v e)
+      | inr d ↦ rule-on k b m below n v d ∙ lists-of-256 k b m n (up v n) (moved 256 b below below (at v n .firstChild) v) ∙ sym (upto-on 256 k b m below n v d)
+    ]
 
 last-end : (k m below n : ℕ) (v : Table) → n ≡ m → lastBelow k m below n v ≡ below
 unfolding lastBelow choose
@@ -128,7 +153,7 @@ module _ (t : Table) (w : Whole t) (b m : ℕ) (ring : List ℕ) (v : Table) (pl
 
   pub record PathGathered (below n : ℕ) (zs done : List ℕ) (u : Table) : Type 0 where
     pub table : Table
-    pub reached : (k : ℕ) → length zs ≤ k → movedUpTo k b m below n u ≡ table
+    pub reached : (lists k : ℕ) → 256 ≤ lists → length zs ≤ k → movedUpToBy lists k b m below n u ≡ table
     pub gathered : Gathered (onto zs done) table
 
   -- to be passed: in the ring, below m and not done
@@ -161,19 +186,19 @@ module _ (t : Table) (w : Whole t) (b m : ℕ) (ring : List ℕ) (v : Table) (pl
       rest : PathGathered z (up t z) zs (z ∷ done) (first .table)
       rest = ih z (up t z) (z ∷ done) (first .table) c (s .1) later (once .1) (first .gathered)
 
-      reached : (k : ℕ) → length (z ∷ zs) ≤ k → movedUpTo k b m below z u ≡ rest .table
-      reached zero l = absurd (omega arith)
-      reached (suc k) l =
-          upto-on k b m below z u (mine .1)
-          ∙ ap (λ (x : Table). movedUpTo k b m z (up u z) x) (first .reached 256 (omega arith))
-          ∙ ap (λ (q : ℕ). movedUpTo k b m z q (first .table)) (ap (λ (r : Slot). r .parent) (ring-untouched done u g z (mine .0)))
-          ∙ rest .reached k (omega arith)
+      reached : (lists k : ℕ) → 256 ≤ lists → length (z ∷ zs) ≤ k → movedUpToBy lists k b m below z u ≡ rest .table
+      reached lists zero h l = absurd (omega arith)
+      reached lists (suc k) h l =
+          upto-on lists k b m below z u (mine .1)
+          ∙ ap (λ (x : Table). movedUpToBy lists k b m z (up u z) x) (first .reached lists h)
+          ∙ ap (λ (q : ℕ). movedUpToBy lists k b m z q (first .table)) (ap (λ (r : Slot). r .parent) (ring-untouched done u g z (mine .0)))
+          ∙ rest .reached lists k h (omega arith)
 
   start-is : (below n z : ℕ) (zs done : List ℕ) (u : Table) → n ≡ z → PathGathered below z zs done u → PathGathered below n zs done u
   start-is below n z zs done u e r = rw e r
 
   pub path-gathers : (above zs : List ℕ) → Along above zs
-  path-gathers above [] below n done u c s ok once g = record { table = u; reached = λ k l. upto-end k b m below n u (c .0); gathered = g }
+  path-gathers above [] below n done u c s ok once g = record { table = u; reached = λ lists k h l. upto-end lists k b m below n u (c .0); gathered = g }
   path-gathers above (z ∷ zs) below n done u c s ok once g =
       start-is below n z (z ∷ zs) done u (c .0) (one-more above zs below z done u (c .2) s ok once g (path-gathers above zs))
 

@@ -16,7 +16,7 @@ use Rattle.rules.specs.Act.{skip, say, change, _then_, read, choose}
 use Rattle.rules.specs.Slots.{withParent, withFirstChild, withSibling, up, next}
 use Rattle.rules.specs.Trees.{root, meeting}
 use Rattle.rules.specs.Sound.{nextInRing}
-use Rattle.rules.specs.Blossom.{lacksBlossomSlot, gathered, enclosed, ringed, blossomPlaced, createBlossom, lastBelow}
+use Rattle.rules.specs.Blossom.{lacksBlossomSlot, gathered, enclosed, ringed, blossomPlaced, createBlossom, movedUpTo, lastBelow}
 use Rattle.rules.specs.Conflict.{blossomInTree}
 use Rattle.rules.specs.Chain.{_∈_, NoDup, Chain}
 use Rattle.rules.proofs.Reflect.{tests, test-false}
@@ -38,7 +38,7 @@ use Rattle.rules.proofs.MadeInside.{made-whole}
 use Rattle.rules.proofs.RingOfPaths as Path
 use Rattle.rules.proofs.RingOfPaths.{onto, onto→, →onto, lastOr, ringOfPaths, Stepped, stepped}
 use Rattle.rules.proofs.Placing.{Placed, placed}
-use Rattle.rules.proofs.Gathering.{Gathered, NodeGathered, PathGathered, gathered-none, ring-untouched, node-gathers, path-gathers, last-found}
+use Rattle.rules.proofs.Gathering.{lists-of-256, Gathered, NodeGathered, PathGathered, gathered-none, ring-untouched, node-gathers, path-gathers, last-found}
 use Rattle.rules.proofs.Ringing.{RingedUp, RingedDown, Turned, ringed-up, ringed-down}
 use Rattle.rules.proofs.RoundTheRing.{InRing, round-up, round-down, turned-each}
 
@@ -187,8 +187,13 @@ module _ (x y : ℕ) (l : Link) (t : Table) (o : OneTree t x y l) (slot : ¬ T (
   is-gathered : gathered b m x y v ≡ at-meeting .table
   unfolding gathered
   is-gathered =
-      rw (along-1 .reached 256 (omega (arith, short-1)), along-2 .reached 256 (omega (arith, short-2)), last-1 256 (omega arith), last-2 256 (omega arith))
-      (at-meeting .reached 256 (omega arith))
+      rw (rule-1, rule-2, last-1 256 (omega arith), last-2 256 (omega arith)) (at-meeting .reached 256 (omega arith))
+    where
+      rule-1 : movedUpTo 256 b m x x v ≡ along-1 .table
+      rule-1 = lists-of-256 256 b m x x v ∙ along-1 .reached 256 256 (omega arith) (omega (arith, short-1))
+
+      rule-2 : movedUpTo 256 b m y y (along-1 .table) ≡ along-2 .table
+      rule-2 = lists-of-256 256 b m y y (along-1 .table) ∙ along-2 .reached 256 256 (omega arith) (omega (arith, short-2))
 
   -- ---- the ring
 
