@@ -70,7 +70,29 @@ last-on : (k m below n : ℕ) (v : Table) → n ≢ m → lastBelow (suc k) m be
 unfolding lastBelow choose
 last-on k m below n v d = rw (eqb-no n m d)
 
--- v is the table with the blossom in its place
+-- ---- what has moved
+
+-- a child off the paths of a node that is done
+abbrev pub Off : Table → List ℕ → List ℕ → ℕ → Type 0
+Off t ring done j = T (outer t j) × (up t j ∈ done) × ¬ (j ∈ ring)
+
+-- u is v, where the blossom b has its place, but that b has these children
+pub record Gathered (t : Table) (b : ℕ) (ring : List ℕ) (v : Table) (done : List ℕ) (u : Table) : Type 0 where
+  pub list : List ℕ
+  pub taken : Taken v b list u
+  pub exact : (j : ℕ) → (j ∈ list) ↔ Off t ring done j
+
+-- .. after n's children but e and f, and after those of the nodes zs of a path from n
+pub record NodeGathered (t : Table) (b : ℕ) (ring : List ℕ) (v : Table) (n e f : ℕ) (done : List ℕ) (u : Table) : Type 0 where
+  pub table : Table
+  pub reached : (k : ℕ) → 256 ≤ k → moved k b e f (at u n .firstChild) u ≡ table
+  pub gathered : Gathered t b ring v (n ∷ done) table
+
+pub record PathGathered (t : Table) (b m : ℕ) (ring : List ℕ) (v : Table) (below n : ℕ) (zs done : List ℕ) (u : Table) : Type 0 where
+  pub table : Table
+  pub reached : (lists k : ℕ) → 256 ≤ lists → length zs ≤ k → movedUpToBy lists k b m below n u ≡ table
+  pub gathered : Gathered t b ring v (onto zs done) table
+
 module _ (t : Table) (w : Whole t) (b m : ℕ) (ring : List ℕ) (v : Table) (placed : Placed t b m v) (left : b < 256) (not-new : (j : ℕ) → T (outer t j) → j ≢ b) (outers : (j : ℕ) → j ∈ ring → T (outer t j)) (not-above : (j : ℕ) → j ∈ ring → j ≢ up t m) where
   ring-placed : (j : ℕ) → j ∈ ring → at v j ≡ at t j
   ring-placed j i = placed .other j (not-new j (outers j i)) (not-above j i)
@@ -84,30 +106,17 @@ module _ (t : Table) (w : Whole t) (b m : ℕ) (ring : List ℕ) (v : Table) (pl
       go (inl e) (inl z) = rw (e ∙ z) (ap (λ (s : Slot). s .sibling) (at-none v (placed .full) ∙ sym (at-none t (w .full))))
       go (inl e) (inr q) = rw e (ap (λ (s : Slot). s .sibling) (placed .above q))
 
-  -- ---- what has moved so far: the children off the paths of the nodes that are done
+  -- ---- what has moved so far
 
-  abbrev Off : List ℕ → ℕ → Type 0
-  Off done j = T (outer t j) × (up t j ∈ done) × ¬ (j ∈ ring)
-
-  pub record Gathered (done : List ℕ) (u : Table) : Type 0 where
-    pub list : List ℕ
-    pub taken : Taken v b list u
-    pub exact : (j : ℕ) → (j ∈ list) ↔ Off done j
-
-  pub gathered-none : at v b .firstChild ≡ none → Gathered [] v
+  pub gathered-none : at v b .firstChild ≡ none → Gathered t b ring v [] v
   gathered-none e = record { list = []; taken = taken-none v b (placed .full) e; exact = λ j. (λ i. absurd i, λ q. q .1) }
 
-  pub ring-untouched : (done : List ℕ) (u : Table) → Gathered done u → (j : ℕ) → j ∈ ring → at u j ≡ at t j
+  pub ring-untouched : (done : List ℕ) (u : Table) → Gathered t b ring v done u → (j : ℕ) → j ∈ ring → at u j ≡ at t j
   ring-untouched done u g j i = g .taken .other j (not-new j (outers j i)) (λ k. g .exact j .0 k .2 i) ∙ ring-placed j i
 
   -- ---- one node's children
 
-  pub record NodeGathered (n e f : ℕ) (done : List ℕ) (u : Table) : Type 0 where
-    pub table : Table
-    pub reached : (k : ℕ) → 256 ≤ k → moved k b e f (at u n .firstChild) u ≡ table
-    pub gathered : Gathered (n ∷ done) table
-
-  module _ (n e f : ℕ) (done : List ℕ) (u : Table) (g : Gathered done u) (on : n ∈ ring) (new : ¬ (n ∈ done)) (only : InRingOnly t ring n e f) where
+  module _ (n e f : ℕ) (done : List ℕ) (u : Table) (g : Gathered t b ring v done u) (on : n ∈ ring) (new : ¬ (n ∈ done)) (only : InRingOnly t ring n e f) where
     outer-n : T (outer t n)
     outer-n = outers n on
 
@@ -128,20 +137,20 @@ module _ (t : Table) (w : Whole t) (b m : ℕ) (ring : List ℕ) (v : Table) (pl
     short : length (kids .list) ≤ 256
     short = chain-fits (next t) 256 (at t n .firstChild) (kids .list) (kids .chain) (λ j i. ok j i .0)
 
-    told : (j : ℕ) → (j ∈ walk .list) ↔ Off (n ∷ done) j
+    told : (j : ℕ) → (j ∈ walk .list) ↔ Off t ring (n ∷ done) j
     told j = (λ i. to (walk .exact j .0 i), from)
       where
-        to : (j ∈ g .list) ⊎ ((j ∈ kids .list) × (j ≢ e) × (j ≢ f)) → Off (n ∷ done) j
+        to : (j ∈ g .list) ⊎ ((j ∈ kids .list) × (j ≢ e) × (j ≢ f)) → Off t ring (n ∷ done) j
         to (inl i) = let q = g .exact j .0 i in (q .0, inr (q .1), q .2)
         to (inr (i, p, q)) =
             let k = kids .exact j .0 i in
             (k .0, inl (k .1), λ r. elim (only j k .0 r) [ inl z ↦ p z | inr z ↦ q z ])
 
-        from : Off (n ∷ done) j → j ∈ walk .list
+        from : Off t ring (n ∷ done) j → j ∈ walk .list
         from (o, inl z, r) = walk .exact j .1 (inr (kids .exact j .1 (o, z), λ q. r (only j (o, z) .1 (inl q)), λ q. r (only j (o, z) .1 (inr q))))
         from (o, inr i, r) = walk .exact j .1 (inl (g .exact j .1 (o, i, r)))
 
-    pub node-gathers : NodeGathered n e f done u
+    pub node-gathers : NodeGathered t b ring v n e f done u
     node-gathers =
         record {
           table = walk .table;
@@ -150,11 +159,6 @@ module _ (t : Table) (w : Whole t) (b m : ℕ) (ring : List ℕ) (v : Table) (pl
         }
 
   -- ---- the nodes of a path below m
-
-  pub record PathGathered (below n : ℕ) (zs done : List ℕ) (u : Table) : Type 0 where
-    pub table : Table
-    pub reached : (lists k : ℕ) → 256 ≤ lists → length zs ≤ k → movedUpToBy lists k b m below n u ≡ table
-    pub gathered : Gathered (onto zs done) table
 
   -- to be passed: in the ring, below m and not done
   abbrev Next : List ℕ → ℕ → Type 0
@@ -167,23 +171,23 @@ module _ (t : Table) (w : Whole t) (b m : ℕ) (ring : List ℕ) (v : Table) (pl
       → Stepped t ring below zs
       → ((z : ℕ) → z ∈ zs → Next done z)
       → NoDup zs
-      → Gathered done u
-      → PathGathered below n zs done u
+      → Gathered t b ring v done u
+      → PathGathered t b m ring v below n zs done u
 
-  one-more : (above zs : List ℕ) (below z : ℕ) (done : List ℕ) (u : Table) → Chain (up t) (up t z) (zs ++ (m ∷ above)) → Stepped t ring below (z ∷ zs) → ((j : ℕ) → j ∈ (z ∷ zs) → Next done j) → NoDup (z ∷ zs) → Gathered done u → Along above zs → PathGathered below z (z ∷ zs) done u
+  one-more : (above zs : List ℕ) (below z : ℕ) (done : List ℕ) (u : Table) → Chain (up t) (up t z) (zs ++ (m ∷ above)) → Stepped t ring below (z ∷ zs) → ((j : ℕ) → j ∈ (z ∷ zs) → Next done j) → NoDup (z ∷ zs) → Gathered t b ring v done u → Along above zs → PathGathered t b m ring v below z (z ∷ zs) done u
   one-more above zs below z done u c s ok once g ih =
       record { table = rest .table; reached = reached; gathered = rest .gathered }
     where
       mine : Next done z
       mine = ok z (inl refl)
 
-      first : NodeGathered z below below done u
+      first : NodeGathered t b ring v z below below done u
       first = node-gathers z below below done u g (mine .0) (mine .2) (s .0)
 
       later : (j : ℕ) → j ∈ zs → Next (z ∷ done) j
       later j i = let q = ok j (inr i) in (q .0, q .1, elim [ inl e ↦ once .0 (rw e at i) | inr k ↦ q .2 k ])
 
-      rest : PathGathered z (up t z) zs (z ∷ done) (first .table)
+      rest : PathGathered t b m ring v z (up t z) zs (z ∷ done) (first .table)
       rest = ih z (up t z) (z ∷ done) (first .table) c (s .1) later (once .1) (first .gathered)
 
       reached : (lists k : ℕ) → 256 ≤ lists → length (z ∷ zs) ≤ k → movedUpToBy lists k b m below z u ≡ rest .table
@@ -194,7 +198,7 @@ module _ (t : Table) (w : Whole t) (b m : ℕ) (ring : List ℕ) (v : Table) (pl
           ∙ ap (λ (q : ℕ). movedUpToBy lists k b m z q (first .table)) (ap (λ (r : Slot). r .parent) (ring-untouched done u g z (mine .0)))
           ∙ rest .reached lists k h (omega arith)
 
-  start-is : (below n z : ℕ) (zs done : List ℕ) (u : Table) → n ≡ z → PathGathered below z zs done u → PathGathered below n zs done u
+  start-is : (below n z : ℕ) (zs done : List ℕ) (u : Table) → n ≡ z → PathGathered t b m ring v below z zs done u → PathGathered t b m ring v below n zs done u
   start-is below n z zs done u e r = rw e r
 
   pub path-gathers : (above zs : List ℕ) → Along above zs

@@ -54,6 +54,7 @@ pub mod Gathering
 pub mod Ringing
 pub mod RoundTheRing
 pub mod Making
+pub mod MakingBudgets
 pub mod Accepting
 pub mod AnyConflict
 pub mod Resetting

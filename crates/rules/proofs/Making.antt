@@ -43,42 +43,42 @@ use Rattle.rules.proofs.Ringing.{RingedUp, RingedDown, Turned, ringed-u
 use Rattle.rules.proofs.RoundTheRing.{InRing, round-up, round-down, turned-each}
 
 module _ (x y : ℕ) (l : Link) (t : Table) (o : OneTree t x y l) (slot : ¬ T (lacksBlossomSlot t)) where
-  abbrev w : Whole t
+  abbrev pub w : Whole t
   w = o .whole
 
-  abbrev b : ℕ
+  abbrev pub b : ℕ
   b = t .begin + t .blossoms
 
-  abbrev m : ℕ
+  abbrev pub m : ℕ
   m = meeting t x y
 
-  left : b < 256
+  pub left : b < 256
   left = omega (arith, room)
     where
       room : ¬ (256 ≤ b)
       room h = slot (simp tests h)
 
-  outer-1 : T (outer t x)
+  pub outer-1 : T (outer t x)
   outer-1 = rw (o .grows-1) tt
 
-  outer-2 : T (outer t y)
+  pub outer-2 : T (outer t y)
   outer-2 = rw (o .grows-2) tt
 
-  abbrev paths : TwoPaths t x y m
+  abbrev pub paths : TwoPaths t x y m
   paths =
       two-paths t (w .full) (w .core) x y m (o .grows-1) (o .grows-2)
       (meeting-found t (w .full) (w .core) x y outer-1 outer-2 (sameTree↔ t (w .full) (w .core) x y outer-1 .0 (o .same)))
 
-  abbrev xs : List ℕ
+  abbrev pub xs : List ℕ
   xs = paths .xs
 
-  abbrev ys : List ℕ
+  abbrev pub ys : List ℕ
   ys = paths .ys
 
-  abbrev above : List ℕ
+  abbrev pub above : List ℕ
   above = paths .above
 
-  abbrev ring : List ℕ
+  abbrev pub ring : List ℕ
   ring = ringOfPaths t x y m paths
 
   tree : InTree t m ring
@@ -92,7 +92,7 @@ module _ (x y : ℕ) (l : Link) (t : Table) (o : OneTree t x y l) (slot : ¬ T (
 
   -- ---- the new blossom's place
 
-  parent-place : up t m ≢ none → (up t m ≢ b) × (m ≢ b) × (m ≢ up t m) × (up t m < 256) × (at t (up t m) .firstChild ≡ m)
+  pub parent-place : up t m ≢ none → (up t m ≢ b) × (m ≢ b) × (m ≢ up t m) × (up t m < 256) × (at t (up t m) .firstChild ≡ m)
   parent-place has =
       let shrinks = above-grow t (w .full) (w .core) m (tree .grows) has in
       let p = above-outer t (w .full) (w .core) m outer-meeting has in
@@ -104,10 +104,10 @@ module _ (x y : ℕ) (l : Link) (t : Table) (o : OneTree t x y l) (slot : ¬ T (
         sym (minus-only t (w .full) (w .core) (up t m) m p n (outer-meeting, refl)),
       )
 
-  abbrev v : Table
+  abbrev pub v : Table
   v = blossomPlaced b m (withBlossoms t (t .blossoms + 1))
 
-  in-place : Placed t b m v
+  pub in-place : Placed t b m v
   in-place = placed t b m (w .full) left (grow-siblingless t (w .core) m (tree .grows)) parent-place
 
   not-above : (j : ℕ) → j ∈ ring → j ≢ up t m
@@ -116,7 +116,7 @@ module _ (x y : ℕ) (l : Link) (t : Table) (o : OneTree t x y l) (slot : ¬ T (
 
   -- ---- the children off the two paths
 
-  start : Gathered t w b m ring v in-place left not-new (tree .outers) not-above [] v
+  start : Gathered t b ring v [] v
   start = gathered-none t w b m ring v in-place left not-new (tree .outers) not-above (rw (in-place .here))
 
   first-not-meeting : (j : ℕ) → j ∈ xs → j ≢ m
@@ -138,10 +138,10 @@ module _ (x y : ℕ) (l : Link) (t : Table) (o : OneTree t x y l) (slot : ¬ T (
   second-once = Path.second-once t x y m w (o .grows-1) (o .grows-2) paths
 
   -- the nodes of the first path, and of both
-  abbrev done-1 : List ℕ
+  abbrev pub done-1 : List ℕ
   done-1 = onto xs []
 
-  abbrev done-2 : List ℕ
+  abbrev pub done-2 : List ℕ
   done-2 = onto ys done-1
 
   in-done-1 : (j : ℕ) → j ∈ done-1 → j ∈ xs
@@ -150,12 +150,12 @@ module _ (x y : ℕ) (l : Link) (t : Table) (o : OneTree t x y l) (slot : ¬ T (
   in-done-2 : (j : ℕ) → j ∈ done-2 → (j ∈ ys) ⊎ (j ∈ xs)
   in-done-2 j i = elim (onto→ ys done-1 j i) [ inl k ↦ inl k | inr k ↦ inr (in-done-1 j k) ]
 
-  along-1 : PathGathered t w b m ring v in-place left not-new (tree .outers) not-above x x xs [] v
+  pub along-1 : PathGathered t b m ring v x x xs [] v
   along-1 =
       path-gathers t w b m ring v in-place left not-new (tree .outers) not-above above xs x x [] v (paths .way-1)
       (stepped t m ring (inl refl) x xs (Path.side-1 t x y m w (o .grows-1) (o .grows-2) paths)) (λ z i. (first-in z i, first-not-meeting z i, λ k. k)) first-once start
 
-  along-2 : PathGathered t w b m ring v in-place left not-new (tree .outers) not-above y y ys done-1 (along-1 .table)
+  pub along-2 : PathGathered t b m ring v y y ys done-1 (along-1 .table)
   along-2 =
       path-gathers t w b m ring v in-place left not-new (tree .outers) not-above above ys y y done-1 (along-1 .table) (paths .way-2)
       (stepped t m ring (inl refl) y ys (Path.side-2 t x y m w (o .grows-1) (o .grows-2) paths)) (λ z i. (second-in z i, second-not-meeting z i, λ k. paths .apart z (in-done-1 z k) i)) second-once (along-1 .gathered)
@@ -163,28 +163,28 @@ module _ (x y : ℕ) (l : Link) (t : Table) (o : OneTree t x y l) (slot : ¬ T (
   meeting-left : ¬ (m ∈ done-2)
   meeting-left i = elim (in-done-2 m i) [ inl k ↦ second-not-meeting m k refl | inr k ↦ first-not-meeting m k refl ]
 
-  at-meeting : NodeGathered t w b m ring v in-place left not-new (tree .outers) not-above m (lastOr x xs) (lastOr y ys) done-2 (along-2 .table)
+  pub at-meeting : NodeGathered t b ring v m (lastOr x xs) (lastOr y ys) done-2 (along-2 .table)
   at-meeting =
       node-gathers t w b m ring v in-place left not-new (tree .outers) not-above m (lastOr x xs) (lastOr y ys) done-2 (along-2 .table) (along-2 .gathered) (inl refl) meeting-left
       (Path.below-meeting t x y m w (o .grows-1) (o .grows-2) paths)
 
-  abbrev all : Gathered t w b m ring v in-place left not-new (tree .outers) not-above (m ∷ done-2) (at-meeting .table)
+  abbrev pub all : Gathered t b ring v (m ∷ done-2) (at-meeting .table)
   all = at-meeting .gathered
 
   -- a way up has at most 256 nodes, the meeting node among them
-  short-1 : length xs < 256
+  pub short-1 : length xs < 256
   short-1 = omega (arith, upward-fits t (w .full) (w .core .kind) x outer-1 (xs ++ (m ∷ above)) (paths .way-1), length-append xs (m ∷ above))
 
-  short-2 : length ys < 256
+  pub short-2 : length ys < 256
   short-2 = omega (arith, upward-fits t (w .full) (w .core .kind) y outer-2 (ys ++ (m ∷ above)) (paths .way-2), length-append ys (m ∷ above))
 
-  last-1 : (k : ℕ) → 256 ≤ k → lastBelow k m x x v ≡ lastOr x xs
+  pub last-1 : (k : ℕ) → 256 ≤ k → lastBelow k m x x v ≡ lastOr x xs
   last-1 k h = last-found t w b m ring v in-place left not-new (tree .outers) not-above above xs x x k (paths .way-1) (λ z i. (first-in z i, first-not-meeting z i)) (omega (arith, short-1))
 
-  last-2 : (k : ℕ) → 256 ≤ k → lastBelow k m y y v ≡ lastOr y ys
+  pub last-2 : (k : ℕ) → 256 ≤ k → lastBelow k m y y v ≡ lastOr y ys
   last-2 k h = last-found t w b m ring v in-place left not-new (tree .outers) not-above above ys y y k (paths .way-2) (λ z i. (second-in z i, second-not-meeting z i)) (omega (arith, short-2))
 
-  is-gathered : gathered b m x y v ≡ at-meeting .table
+  pub is-gathered : gathered b m x y v ≡ at-meeting .table
   unfolding gathered
   is-gathered =
       rw (rule-1, rule-2, last-1 256 (omega arith), last-2 256 (omega arith)) (at-meeting .reached 256 (omega arith))
@@ -200,7 +200,7 @@ module _ (x y : ℕ) (l : Link) (t : Table) (o : OneTree t x y l) (slot : ¬ T (
   fit : (j : ℕ) → j ∈ ring → (j < 256) × (at (at-meeting .table) j ≡ at t j)
   fit j i = (outer-below t (w .full) j (tree .outers j i), ring-untouched t w b m ring v in-place left not-new (tree .outers) not-above (m ∷ done-2) (at-meeting .table) all j i)
 
-  side-up : RingedUp t b m x xs (at-meeting .table)
+  pub side-up : RingedUp t b m x xs (at-meeting .table)
   side-up = ringed-up t b m above xs x (at-meeting .table) (all .taken .full) (paths .way-1) (λ z i. (fit z (first-in z i), first-not-meeting z i)) first-once
 
   turned-in : (j : ℕ) → j ∈ (ys ++ (m ∷ [])) → j ∈ ring
@@ -212,15 +212,15 @@ module _ (x y : ℕ) (l : Link) (t : Table) (o : OneTree t x y l) (slot : ¬ T (
   turned-once : NoDup (ys ++ (m ∷ []))
   turned-once = →nodup-append ys (m ∷ []) second-once (λ z. z, tt) (λ j i. elim [ inl e ↦ second-not-meeting j i e | inr z ↦ z ])
 
-  side-down : RingedDown t b m x l y ys (side-up .table)
+  pub side-down : RingedDown t b m x l y ys (side-up .table)
   side-down =
       ringed-down t b m above ys x l y (side-up .table) (side-up .full) (paths .way-2)
       (λ z i. let f = fit z (turned-in z i) in (f .0, side-up .other z (λ k. not-turned z k i) ∙ f .1)) second-not-meeting turned-once
 
-  abbrev u : Table
+  abbrev pub u : Table
   u = side-down .table
 
-  is-ringed : ringed b m x y l (at-meeting .table) ≡ u
+  pub is-ringed : ringed b m x y l (at-meeting .table) ≡ u
   unfolding ringed
   is-ringed = rw (side-up .reached 256 (omega (arith, short-1))) (side-down .reached 256 short-2)
 
@@ -266,7 +266,7 @@ module _ (x y : ℕ) (l : Link) (t : Table) (o : OneTree t x y l) (slot : ¬ T (
   ring-done j (inl e) = inl e
   ring-done j (inr i) = inr (elim (onto→ ys xs j i) [ inl k ↦ →onto ys done-1 j (inl k) | inr k ↦ →onto ys done-1 j (inr (→onto xs [] j (inl k))) ])
 
-  abbrev moved-list : List ℕ
+  abbrev pub moved-list : List ℕ
   moved-list = all .list
 
   off-path : (j : ℕ) → j ∈ moved-list → OffPath t ring j
@@ -288,7 +288,7 @@ module _ (x y : ℕ) (l : Link) (t : Table) (o : OneTree t x y l) (slot : ¬ T (
       not-off : j ≡ up t m → ¬ OffPath t ring j
       not-off e q = twice-above t (w .full) m ring tree (λ z. some-outer t (w .full) j (q .0) (e ∙ z)) (rw e at (q .1))
 
-  made : Made t u b m ring moved-list
+  pub made : Made t u b m ring moved-list
   made =
       record {
         full = side-down .full;
@@ -335,7 +335,7 @@ module _ (x y : ℕ) (l : Link) (t : Table) (o : OneTree t x y l) (slot : ¬ T (
           round-down t u b m x l ys xs (side-down .turned) (λ z i. (second-not-meeting z i, some-in z (second-in z i))) (some-in m (inl refl))
           (round-up t u b m x xs above (paths .way-1) (λ z i. (ap (λ (s : Slot). s .sibling) (up-node z i), first-not-meeting z i)))
 
-  is-made : blossomInTree x y l t .table ≡ ringed b m x y l (gathered b m x y v)
+  pub is-made : blossomInTree x y l t .table ≡ ringed b m x y l (gathered b m x y v)
   unfolding blossomInTree read choose createBlossom change _then_ say
   is-made = rw (test-false (lacksBlossomSlot t) slot)
 

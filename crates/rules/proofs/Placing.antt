@@ -38,10 +38,10 @@ unfolding blossomPlaced choose
 placed-child b m t d = rw (eqb-no (up t m) none d)
 
 module _ (t : Table) (b m : ℕ) (full : Full t) (below : b < 256) (siblingless : next t m ≡ none) where
-  abbrev counted : Table
+  abbrev pub counted : Table
   counted = withBlossoms t (t .blossoms + 1)
 
-  counted-at : (j : ℕ) → at counted j ≡ at t j
+  pub counted-at : (j : ℕ) → at counted j ≡ at t j
   unfolding at withBlossoms
   counted-at j = refl
 
@@ -49,7 +49,7 @@ module _ (t : Table) (b m : ℕ) (full : Full t) (below : b < 256) (siblingless 
   unfolding withBlossoms
   counted-full = full
 
-  abbrev stored : Table
+  abbrev pub stored : Table
   stored = put counted b (newBlossom m (at counted m))
 
   stored-full : Full stored
@@ -58,7 +58,7 @@ module _ (t : Table) (b m : ℕ) (full : Full t) (below : b < 256) (siblingless 
   stored-here : at stored b ≡ newBlossom m (at t m)
   stored-here = at-put-same counted b (newBlossom m (at counted m)) counted-full below ∙ ap (newBlossom m) (counted-at m)
 
-  stored-other : (j : ℕ) → j ≢ b → at stored j ≡ at t j
+  pub stored-other : (j : ℕ) → j ≢ b → at stored j ≡ at t j
   stored-other j d = at-put-other counted b j (newBlossom m (at counted m)) d ∙ counted-at j
 
   at-root : up t m ≡ none → Placed t b m (blossomPlaced b m counted)
