@@ -55,6 +55,7 @@ pub mod Ringing
 pub mod RoundTheRing
 pub mod Making
 pub mod MakingBudgets
+pub mod MakingWalks
 pub mod Accepting
 pub mod AnyConflict
 pub mod Resetting

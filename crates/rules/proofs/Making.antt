@@ -184,16 +184,15 @@ module _ (x y : ℕ) (l : Link) (t : Table) (o : OneTree t x y l) (slot : ¬ T (
   pub last-2 : (k : ℕ) → 256 ≤ k → lastBelow k m y y v ≡ lastOr y ys
   last-2 k h = last-found t w b m ring v in-place left not-new (tree .outers) not-above above ys y y k (paths .way-2) (λ z i. (second-in z i, second-not-meeting z i)) (omega (arith, short-2))
 
+  pub is-along-1 : (k : ℕ) → 256 ≤ k → movedUpTo k b m x x v ≡ along-1 .table
+  is-along-1 k h = lists-of-256 k b m x x v ∙ along-1 .reached 256 k (omega arith) (omega (arith, short-1))
+
+  pub is-along-2 : (k : ℕ) → 256 ≤ k → movedUpTo k b m y y (along-1 .table) ≡ along-2 .table
+  is-along-2 k h = lists-of-256 k b m y y (along-1 .table) ∙ along-2 .reached 256 k (omega arith) (omega (arith, short-2))
+
   pub is-gathered : gathered b m x y v ≡ at-meeting .table
   unfolding gathered
-  is-gathered =
-      rw (rule-1, rule-2, last-1 256 (omega arith), last-2 256 (omega arith)) (at-meeting .reached 256 (omega arith))
-    where
-      rule-1 : movedUpTo 256 b m x x v ≡ along-1 .table
-      rule-1 = lists-of-256 256 b m x x v ∙ along-1 .reached 256 256 (omega arith) (omega (arith, short-1))
-
-      rule-2 : movedUpTo 256 b m y y (along-1 .table) ≡ along-2 .table
-      rule-2 = lists-of-256 256 b m y y (along-1 .table) ∙ along-2 .reached 256 256 (omega arith) (omega (arith, short-2))
+  is-gathered = rw (is-along-1 256 (omega arith), is-along-2 256 (omega arith), last-1 256 (omega arith), last-2 256 (omega arith)) (at-meeting .reached 256 (omega arith))
 
   -- ---- the ring
 
@@ -288,7 +287,7 @@ module _ (x y : ℕ) (l : Link) (t : Table) (o : OneTree t x y l) (slot : ¬ T (
       not-off : j ≡ up t m → ¬ OffPath t ring j
       not-off e q = twice-above t (w .full) m ring tree (λ z. some-outer t (w .full) j (q .0) (e ∙ z)) (rw e at (q .1))
 
-  pub made : Made t u b m ring moved-list
+  made : Made t u b m ring moved-list
   made =
       record {
         full = side-down .full;
@@ -335,13 +334,18 @@ module _ (x y : ℕ) (l : Link) (t : Table) (o : OneTree t x y l) (slot : ¬ T (
           round-down t u b m x l ys xs (side-down .turned) (λ z i. (second-not-meeting z i, some-in z (second-in z i))) (some-in m (inl refl))
           (round-up t u b m x xs above (paths .way-1) (λ z i. (ap (λ (s : Slot). s .sibling) (up-node z i), first-not-meeting z i)))
 
-  pub is-made : blossomInTree x y l t .table ≡ ringed b m x y l (gathered b m x y v)
+  is-made : blossomInTree x y l t .table ≡ ringed b m x y l (gathered b m x y v)
   unfolding blossomInTree read choose createBlossom change _then_ say
   is-made = rw (test-false (lacksBlossomSlot t) slot)
 
-  makes-whole : Whole (blossomInTree x y l t .table)
-  makes-whole = rw (is-made, is-gathered, is-ringed) (made-whole t u b m ring moved-list w made)
+  is-result : blossomInTree x y l t .table ≡ u
+  is-result = is-made ∙ ap (ringed b m x y l) is-gathered ∙ is-ringed
+
+  -- what the rule leaves in each slot
+  pub blossom-made : Made t (blossomInTree x y l t .table) b m ring moved-list
+  blossom-made = rw is-result made
 
 -- "one tree | make a blossom": a sound table with a slot left stays sound
 pub blossom-keeps : (x y : ℕ) (l : Link) (u : Table) → OneTree u x y l → ¬ T (lacksBlossomSlot u) → Whole (blossomInTree x y l u .table)
-blossom-keeps x y l u o slot = makes-whole x y l u o slot
+blossom-keeps x y l u o slot =
+    made-whole u (blossomInTree x y l u .table) (b x y l u o slot) (m x y l u o slot) (ring x y l u o slot) (moved-list x y l u o slot) (o .whole) (blossom-made x y l u o slot)
