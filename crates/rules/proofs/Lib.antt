@@ -56,6 +56,7 @@ pub mod RoundTheRing
 pub mod Making
 pub mod MakingBudgets
 pub mod MakingWalks
+pub mod MadeElsewhere
 pub mod Accepting
 pub mod AnyConflict
 pub mod Resetting

@@ -79,7 +79,7 @@ module _ (t u : Table) (b m : ℕ) (ring moved : List ℕ) (w : Whole t) (d : Ma
       go (At.elsewhere _ _ _ e) = rw e
 
   -- an inner node is as it was
-  inner-same : (j : ℕ) → T (inner t j) → at u j ≡ at t j
+  pub inner-same : (j : ℕ) → T (inner t j) → at u j ≡ at t j
   inner-same j h = go (stands j)
     where
       not-outer : {A : Type 0} → T (outer t j) → A
