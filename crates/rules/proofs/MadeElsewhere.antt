@@ -36,28 +36,28 @@ module _ (x y : ℕ) (l : Link) (t : Table) (o : OneTree t x y l) (slot : ¬ T (
   m = meeting t x y
 
   one-root : root t y ≡ root t x
-  one-root = sym (sameTree↔ t (w .full) (w .core) x y (M.outer-1 x y l t o slot) .0 (o .same))
+  one-root = sym (sameTree↔ t (w .full) (w .core) x y (M.outer-1 o slot) .0 (o .same))
 
-  root-1 : (j : ℕ) → j ∈ (M.xs x y l t o slot ++ (m ∷ M.above x y l t o slot)) → root t j ≡ root t x
+  root-1 : (j : ℕ) → j ∈ (M.xs o slot ++ (m ∷ M.above o slot)) → root t j ≡ root t x
   root-1 j i =
-      root-shared t (w .full) (w .core) x (M.outer-1 x y l t o slot) j
-      (rw (upward-is t (w .full) (w .core) x (M.outer-1 x y l t o slot) (M.xs x y l t o slot ++ (m ∷ M.above x y l t o slot)) (M.paths x y l t o slot .way-1)) i)
+      root-shared t (w .full) (w .core) x (M.outer-1 o slot) j
+      (rw (upward-is t (w .full) (w .core) x (M.outer-1 o slot) (M.xs o slot ++ (m ∷ M.above o slot)) (M.paths o slot .way-1)) i)
 
-  root-2 : (j : ℕ) → j ∈ (M.ys x y l t o slot ++ (m ∷ M.above x y l t o slot)) → root t j ≡ root t x
+  root-2 : (j : ℕ) → j ∈ (M.ys o slot ++ (m ∷ M.above o slot)) → root t j ≡ root t x
   root-2 j i =
-      root-shared t (w .full) (w .core) y (M.outer-2 x y l t o slot) j
-      (rw (upward-is t (w .full) (w .core) y (M.outer-2 x y l t o slot) (M.ys x y l t o slot ++ (m ∷ M.above x y l t o slot)) (M.paths x y l t o slot .way-2)) i)
+      root-shared t (w .full) (w .core) y (M.outer-2 o slot) j
+      (rw (upward-is t (w .full) (w .core) y (M.outer-2 o slot) (M.ys o slot ++ (m ∷ M.above o slot)) (M.paths o slot .way-2)) i)
       ∙ one-root
 
   root-meeting : root t m ≡ root t x
-  root-meeting = root-1 m (in-right (M.xs x y l t o slot) (m ∷ M.above x y l t o slot) m (inl refl))
+  root-meeting = root-1 m (in-right (M.xs o slot) (m ∷ M.above o slot) m (inl refl))
 
-  root-ring : (j : ℕ) → j ∈ M.ring x y l t o slot → root t j ≡ root t x
+  root-ring : (j : ℕ) → j ∈ M.ring o slot → root t j ≡ root t x
   root-ring j (inl e) = rw e root-meeting
   root-ring j (inr i) =
-      elim (onto→ (M.ys x y l t o slot) (M.xs x y l t o slot) j i) [
-        | inl k ↦ root-2 j (in-left (M.ys x y l t o slot) (m ∷ M.above x y l t o slot) j k)
-        | inr k ↦ root-1 j (in-left (M.xs x y l t o slot) (m ∷ M.above x y l t o slot) j k)
+      elim (onto→ (M.ys o slot) (M.xs o slot) j i) [
+        | inl k ↦ root-2 j (in-left (M.ys o slot) (m ∷ M.above o slot) j k)
+        | inr k ↦ root-1 j (in-left (M.xs o slot) (m ∷ M.above o slot) j k)
       ]
 
   -- a parent's root is the node's
@@ -69,7 +69,7 @@ module _ (x y : ℕ) (l : Link) (t : Table) (o : OneTree t x y l) (slot : ¬ T (
 
   pub blossom-others : (j : ℕ) → T (outer t j) → root t j ≢ root t x → at (blossomInTree x y l t .table) j ≡ at t j
   blossom-others j q far =
-      made .other j (not-new t u b m ring moved w made j q) (λ i. far (root-ring j i))
+      made .other j (not-new w made j q) (λ i. far (root-ring j i))
       (λ i.
           let f = made .exact j .0 i in
           far (sym (root-up j q (some-outer t (w .full) (up t j) (made .before .outers (up t j) (f .1)))) ∙ root-ring (up t j) (f .1)))
@@ -84,13 +84,13 @@ module _ (x y : ℕ) (l : Link) (t : Table) (o : OneTree t x y l) (slot : ¬ T (
       u = blossomInTree x y l t .table
 
       ring : List ℕ
-      ring = M.ring x y l t o slot
+      ring = M.ring o slot
 
       moved : List ℕ
-      moved = M.moved-list x y l t o slot
+      moved = M.moved-list o slot
 
       made : Made t u b m ring moved
-      made = M.blossom-made x y l t o slot
+      made = M.blossom-made o slot
 
   pub blossom-inners : (j : ℕ) → T (inner t j) → at (blossomInTree x y l t .table) j ≡ at t j
-  blossom-inners = inner-same t (blossomInTree x y l t .table) (t .begin + t .blossoms) m (M.ring x y l t o slot) (M.moved-list x y l t o slot) w (M.blossom-made x y l t o slot)
+  blossom-inners = inner-same w (M.blossom-made o slot)

@@ -30,15 +30,15 @@ use Rattle.rules.proofs.MadeBlossom.{Made}
 use Rattle.rules.proofs.MadeSlots as At
 use Rattle.rules.proofs.MadeTree.{made-core}
 
-module _ (t u : Table) (b m : ℕ) (ring moved : List ℕ) (w : Whole t) (d : Made t u b m ring moved) where
+module _ {t u : Table} {b m : ℕ} {ring moved : List ℕ} (w : Whole t) (d : Made t u b m ring moved) where
   abbrev Where : ℕ → Type 0
-  Where j = At.Where t u b m ring moved w d j
+  Where j = At.Where w d j
 
   stands : (j : ℕ) → Where j
-  stands j = At.stands t u b m ring moved w d j
+  stands j = At.stands w d j
 
   some-new : b ≢ none
-  some-new = At.some-new t u b m ring moved w d
+  some-new = At.some-new w d
 
   -- ---- what is present
 
@@ -62,7 +62,7 @@ module _ (t u : Table) (b m : ℕ) (ring moved : List ℕ) (w : Whole t) (d : Ma
       go (At.is-new e) = absurd (nb e)
       go (At.is-above _ _ o _ _ e) = outer-present (at t j .state) o
       go (At.in-ring i) = outer-present (at t j .state) (d .before .outers j i)
-      go (At.is-moved i) = outer-present (at t j .state) (At.moved-outer t u b m ring moved w d j i)
+      go (At.is-moved i) = outer-present (at t j .state) (At.moved-outer w d j i)
       go (At.elsewhere _ _ _ e) = rw e at h
 
   new-present : T (present u b)
@@ -86,10 +86,10 @@ module _ (t u : Table) (b m : ℕ) (ring moved : List ℕ) (w : Whole t) (d : Ma
       not-outer o = absurd (outer-not-inner (at t j .state) o h)
 
       go : Where j → at u j ≡ at t j
-      go (At.is-new e) = absurd (omega (arith, At.present-less t u b m ring moved w d j (inner-present (at t j .state) h), e))
+      go (At.is-new e) = absurd (omega (arith, At.present-less w d j (inner-present (at t j .state) h), e))
       go (At.is-above _ _ o _ _ e) = not-outer o
       go (At.in-ring i) = not-outer (d .before .outers j i)
-      go (At.is-moved i) = not-outer (At.moved-outer t u b m ring moved w d j i)
+      go (At.is-moved i) = not-outer (At.moved-outer w d j i)
       go (At.elsewhere _ _ _ e) = e
 
   -- .. and one that is inner now is in the ring or was inner
@@ -100,7 +100,7 @@ module _ (t u : Table) (b m : ℕ) (ring moved : List ℕ) (w : Whole t) (d : Ma
       go (At.is-new e) = absurd (rw (e, d .new) at h)
       go (At.is-above _ _ o _ _ e) = absurd (outer-not-inner (at t j .state) o (rw e at h))
       go (At.in-ring i) = inl i
-      go (At.is-moved i) = absurd (outer-not-inner (at t j .state) (At.moved-outer t u b m ring moved w d j i) (rw (d .adopted j i) at h))
+      go (At.is-moved i) = absurd (outer-not-inner (at t j .state) (At.moved-outer w d j i) (rw (d .adopted j i) at h))
       go (At.elsewhere _ _ _ e) = inr (rw e at h, e)
 
   empty-was : (j : ℕ) → at u j .state ≡ S.Empty → at u j ≡ at t j
@@ -113,7 +113,7 @@ module _ (t u : Table) (b m : ℕ) (ring moved : List ℕ) (w : Whole t) (d : Ma
       go (At.is-new e) = not-empty (at u b .state) new-present (rw e at h)
       go (At.is-above _ _ o _ _ e) = not-empty (at u j .state) (outer-still j o) h
       go (At.in-ring i) = not-empty (at u j .state) (outer-still j (d .before .outers j i)) h
-      go (At.is-moved i) = not-empty (at u j .state) (outer-still j (At.moved-outer t u b m ring moved w d j i)) h
+      go (At.is-moved i) = not-empty (at u j .state) (outer-still j (At.moved-outer w d j i)) h
       go (At.elsewhere _ _ _ e) = e
 
   undamaged : (j : ℕ) → at u j .state ≢ S.Damaged
@@ -159,8 +159,8 @@ module _ (t u : Table) (b m : ℕ) (ring moved : List ℕ) (w : Whole t) (d : Ma
       record {
         list = ring;
         chain = rw (d .new) (d .round);
-        closes = λ j i. rw (d .ringed j i, next) (At.ring-some t u b m ring moved w d (d .after j) (d .goes-on j i));
-        exact = λ j. (λ i. rw (d .ringed j i, up) (tt, refl), λ k. elim (inner-was j (k .0)) [ inl i ↦ i | inr h ↦ absurd (At.no-parent-new t u b m ring moved w d j (rw (h .1, up) at (k .1))) ]);
+        closes = λ j i. rw (d .ringed j i, next) (At.ring-some w d (d .after j) (d .goes-on j i));
+        exact = λ j. (λ i. rw (d .ringed j i, up) (tt, refl), λ k. elim (inner-was j (k .0)) [ inl i ↦ i | inr h ↦ absurd (At.no-parent-new w d j (rw (h .1, up) at (k .1))) ]);
         odd = d .odd;
         at-least-three = d .three;
       }
@@ -192,7 +192,7 @@ module _ (t u : Table) (b m : ℕ) (ring moved : List ℕ) (w : Whole t) (d : Ma
             linked = rw (d .ringed j i) (d .right j i .linked);
             childless = rw (d .ringed j i);
             parent = rw (d .ringed j i, up) new-blossom;
-            larger = rw (d .ringed j i, up) (At.outer-less t u b m ring moved w d j (d .before .outers j i));
+            larger = rw (d .ringed j i, up) (At.outer-less w d j (d .before .outers j i));
           }
       go (inr q) =
           let f = w .rest .inners j (q .0) in
@@ -210,7 +210,7 @@ module _ (t u : Table) (b m : ℕ) (ring moved : List ℕ) (w : Whole t) (d : Ma
       }
 
   moved-present : (j : ℕ) → j ∈ moved → T (present u j)
-  moved-present j i = outer-still j (At.moved-outer t u b m ring moved w d j i)
+  moved-present j i = outer-still j (At.moved-outer w d j i)
 
   -- the next moved child
   moved-next : (j : ℕ) → j ∈ moved → d .after j ≢ none → d .after j ∈ moved
@@ -221,7 +221,7 @@ module _ (t u : Table) (b m : ℕ) (ring moved : List ℕ) (w : Whole t) (d : Ma
   pointers : (j : ℕ) → Where j → Pointers u (at u j)
   pointers j (At.is-new e) =
       let p = pointers-still (at t m) (w .rest .pointers m) in
-      rw (e, d .new) (record { parent = p .parent; child = λ h. moved-present (d .first) (chain-start (next u) (d .first) moved (d .list) h); sibling = p .sibling; ring = λ _. outer-still m (At.meeting-outer t u b m ring moved w d) })
+      rw (e, d .new) (record { parent = p .parent; child = λ h. moved-present (d .first) (chain-start (next u) (d .first) moved (d .list) h); sibling = p .sibling; ring = λ _. outer-still m (At.meeting-outer w d) })
   pointers j (At.is-above _ _ _ _ _ e) =
       let p = pointers-still (at t j) (w .rest .pointers j) in
       rw e (record { parent = p .parent; child = λ _. new-present; sibling = p .sibling; ring = p .ring })
@@ -268,7 +268,7 @@ module _ (t u : Table) (b m : ℕ) (ring moved : List ℕ) (w : Whole t) (d : Ma
   moved-peer : (j : ℕ) → j ∈ moved → at t j .link .peerTouch ≢ none → DefectInside u b (at t j .link .peerTouch)
   moved-peer j i h =
       let p = d .exact j .0 i in
-      defect-new (up t j) (at t j .link .peerTouch) (p .1) (peer-touch-tree t (w .full) (w .rest) j (p .0) (At.ring-some t u b m ring moved w d (up t j) (p .1)) h)
+      defect-new (up t j) (at t j .link .peerTouch) (p .1) (peer-touch-tree t (w .full) (w .rest) j (p .0) (At.ring-some w d (up t j) (p .1)) h)
 
   touches : (j : ℕ) → Where j → Touches u j
   touches j (At.is-new e) =
@@ -279,7 +279,7 @@ module _ (t u : Table) (b m : ℕ) (ring moved : List ℕ) (w : Whole t) (d : Ma
       slot-touches j (enclosed b (d .after j) (d .links j) (at t j)) (d .ringed j i) (λ _. defect-still j (d .links j .touch) (d .right j i .touch))
       (λ _. defect-still (d .after j) (d .links j .peerTouch) (d .right j i .peer-touch))
   touches j (At.is-moved i) =
-      let n = At.moved-minus t u b m ring moved w d j i in
+      let n = At.moved-minus w d j i in
       slot-touches j (withSibling (d .after j) (withParent b (at t j))) (d .adopted j i) (old-touch j) (λ h. rw (n .shrinks, eqb-no b none some-new) (moved-peer j i h))
   touches j (At.elsewhere _ _ _ e) = slot-touches j (at t j) e (old-touch j) (old-peer j)
 
@@ -298,4 +298,4 @@ module _ (t u : Table) (b m : ℕ) (ring moved : List ℕ) (w : Whole t) (d : Ma
       }
 
   pub made-whole : Whole u
-  made-whole = record { full = d .full; core = made-core t u b m ring moved w d; rest = made-rest }
+  made-whole = record { full = d .full; core = made-core w d; rest = made-rest }

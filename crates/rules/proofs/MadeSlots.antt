@@ -54,7 +54,7 @@ twice-above t full m ring before has i =
     before .off (up t (up t m))
     (chain-next (up t) (up t m) (before .above) (before .way) (up t m) (chain-start (up t) (up t m) (before .above) (before .way) has) (some-outer t full (up t (up t m)) (before .outers (up t (up t m)) i))) i
 
-module _ (t u : Table) (b m : ℕ) (ring moved : List ℕ) (w : Whole t) (d : Made t u b m ring moved) where
+module _ {t u : Table} {b m : ℕ} {ring moved : List ℕ} (w : Whole t) (d : Made t u b m ring moved) where
   -- ---- before
 
   pub present-less : (j : ℕ) → T (present t j) → j < b

@@ -25,12 +25,12 @@ use Rattle.rules.proofs.Renewing.{Whole}
 use Rattle.rules.proofs.MadeBlossom.{InTree, Made}
 use Rattle.rules.proofs.MadeSlots as At
 
-module _ (t u : Table) (b m : ℕ) (ring moved : List ℕ) (w : Whole t) (d : Made t u b m ring moved) where
+module _ {t u : Table} {b m : ℕ} {ring moved : List ℕ} (w : Whole t) (d : Made t u b m ring moved) where
   abbrev Where : ℕ → Type 0
-  Where j = At.Where t u b m ring moved w d j
+  Where j = At.Where w d j
 
   stands : (j : ℕ) → Where j
-  stands j = At.stands t u b m ring moved w d j
+  stands j = At.stands w d j
 
   -- the slots that are told anew
   abbrev ws : List ℕ
@@ -57,12 +57,12 @@ module _ (t u : Table) (b m : ℕ) (ring moved : List ℕ) (w : Whole t) (d : Ma
 
   -- a peer stands elsewhere: in the ring, above it and below it are tree nodes
   mate : (n peer : ℕ) → Paired t n peer → Where peer → at u peer ≡ at t peer
-  mate n peer p (At.is-new e) = absurd (At.not-new t u b m ring moved w d peer (rw (p .there .stays) tt) e)
+  mate n peer p (At.is-new e) = absurd (At.not-new w d peer (rw (p .there .stays) tt) e)
   mate n peer p (At.is-above _ e o _ _ _) =
       let has : up t m ≢ none = λ z. some-outer t (w .full) peer o (e ∙ z) in
-      absurd (stay-shrink (p .there .stays) (rw e (At.above-minus t u b m ring moved w d has .shrinks)))
+      absurd (stay-shrink (p .there .stays) (rw e (At.above-minus w d has .shrinks)))
   mate n peer p (At.in-ring i) = absurd (elim (d .before .signs peer i) [ inl g ↦ stay-grow (p .there .stays) g | inr g ↦ stay-shrink (p .there .stays) g ])
-  mate n peer p (At.is-moved i) = absurd (At.ring-some t u b m ring moved w d (up t peer) (d .exact peer .0 i .1) (p .there .parentless))
+  mate n peer p (At.is-moved i) = absurd (At.ring-some w d (up t peer) (d .exact peer .0 i .1) (p .there .parentless))
   mate n peer p (At.elsewhere _ _ _ e) = e
 
   was-child : (n c : ℕ) → ¬ (n ∈ ws) → OuterChild u n c → Where c → OuterChild t n c
@@ -74,16 +74,16 @@ module _ (t u : Table) (b m : ℕ) (ring moved : List ℕ) (w : Whole t) (d : Ma
 
   still-child : (n c : ℕ) → ¬ (n ∈ ring) → n ≢ up t m → OuterChild t n c → OuterChild u n c × (next u c ≡ next t c)
   still-child n c nr np k =
-      let f = At.child-off t u b m ring moved w d n c nr np k in
-      let a = At.off-alike t u b m ring moved w d c f in
-      ((rw (At.same-state t u b m ring moved w d c (f .not-b) (f .not-ring)) (k .0), a .parent ∙ k .1), a .sibling)
+      let f = At.child-off w d n c nr np k in
+      let a = At.off-alike w d c f in
+      ((rw (At.same-state w d c (f .not-b) (f .not-ring)) (k .0), a .parent ∙ k .1), a .sibling)
 
   seen : SeenAlike t u ws
   seen =
       record {
         same = λ n h. same n h (stands n);
-        parent-state = λ n o h. At.same-state t u b m ring moved w d (up t n) (At.no-parent-new t u b m ring moved w d n) (λ i. off-moved n h (d .exact n .1 (o, i, off-ring n h)));
-        child-sibling = λ n o h. At.first-sibling t u b m ring moved w d n (off-ring n h) (off-above n h) o;
+        parent-state = λ n o h. At.same-state w d (up t n) (At.no-parent-new w d n) (λ i. off-moved n h (d .exact n .1 (o, i, off-ring n h)));
+        child-sibling = λ n o h. At.first-sibling w d n (off-ring n h) (off-above n h) o;
         peer = λ n o h p. mate n (next t n) p (stands (next t n));
         child-stays = λ n c o h i k. still-child n c (off-ring n h) (off-above n h) k;
         no-new-child = λ n c o h i k. was-child n c h k (stands c);
@@ -93,7 +93,7 @@ module _ (t u : Table) (b m : ℕ) (ring moved : List ℕ) (w : Whole t) (d : Ma
 
   new-top : up t m ≡ none → at t m .link ≡ noLink → Kind u b
   new-top e l =
-      let s = At.meeting-siblingless t u b m ring moved w d in
+      let s = At.meeting-siblingless w d in
       elim (same-or-not (d .first) none) [
         | inl z ↦ free-node (rw (d .new) (record { grows = refl; parentless = e; childless = z; siblingless = s; unlinked = l }))
         | inr f ↦ root-node (rw (d .new) (record { grows = refl; has-child = f; parentless = e; siblingless = s; unlinked = l }))
@@ -107,23 +107,23 @@ module _ (t u : Table) (b m : ℕ) (ring moved : List ℕ) (w : Whole t) (d : Ma
   kind-new (minus-node n) = absurd (grow-shrink (d .before .grows) (n .shrinks))
   kind-new (plus-node p) =
       let has : up t m ≢ none = present-some t (w .full) (up t m) (rw (p .parent-shrinks) tt) in
-      let s = At.same-state t u b m ring moved w d (up t m) (At.no-parent-new t u b m ring moved w d m) (At.above-off-ring t u b m ring moved w d has) in
-      plus-node (rw (d .new) (record { grows = refl; linked = p .linked; siblingless = At.meeting-siblingless t u b m ring moved w d; parent-shrinks = s ∙ p .parent-shrinks }))
+      let s = At.same-state w d (up t m) (At.no-parent-new w d m) (At.above-off-ring w d has) in
+      plus-node (rw (d .new) (record { grows = refl; linked = p .linked; siblingless = At.meeting-siblingless w d; parent-shrinks = s ∙ p .parent-shrinks }))
 
   new-siblingless : next u b ≡ none
-  new-siblingless = rw (d .new, next) (At.meeting-siblingless t u b m ring moved w d)
+  new-siblingless = rw (d .new, next) (At.meeting-siblingless w d)
 
   kind-above : up t m ≢ none → Kind u (up t m)
   kind-above has =
-      let n = At.above-minus t u b m ring moved w d has in
-      let s = At.same-state t u b m ring moved w d (up t (up t m)) (At.no-parent-new t u b m ring moved w d (up t m)) (At.above-twice t u b m ring moved w d has) in
-      minus-node (rw (d .placed has) (record { shrinks = n .shrinks; linked = n .linked; parent-grows = s ∙ n .parent-grows; has-child = At.some-new t u b m ring moved w d; only-child = new-siblingless }))
+      let n = At.above-minus w d has in
+      let s = At.same-state w d (up t (up t m)) (At.no-parent-new w d (up t m)) (At.above-twice w d has) in
+      minus-node (rw (d .placed has) (record { shrinks = n .shrinks; linked = n .linked; parent-grows = s ∙ n .parent-grows; has-child = At.some-new w d; only-child = new-siblingless }))
 
   kind-moved : (j : ℕ) → j ∈ moved → Kind u j
   kind-moved j i =
-      let n = At.moved-minus t u b m ring moved w d j i in
+      let n = At.moved-minus w d j i in
       let h = d .exact j .0 i in
-      let only = At.first-sibling t u b m ring moved w d j (h .2) (At.moved-not-above t u b m ring moved w d j i) (h .0) ∙ n .only-child in
+      let only = At.first-sibling w d j (h .2) (At.moved-not-above w d j i) (h .0) ∙ n .only-child in
       minus-node (rw (d .adopted j i) (record { shrinks = n .shrinks; linked = n .linked; parent-grows = rw (d .new); has-child = n .has-child; only-child = only }))
 
   -- ---- lists
@@ -133,28 +133,28 @@ module _ (t u : Table) (b m : ℕ) (ring moved : List ℕ) (w : Whole t) (d : Ma
       record {
         list = moved;
         chain = rw (d .new) (d .list);
-        exact = λ j. (λ i. (rw (d .adopted j i) (At.moved-outer t u b m ring moved w d j i), rw (d .adopted j i, up)), λ k. go j k (stands j));
+        exact = λ j. (λ i. (rw (d .adopted j i) (At.moved-outer w d j i), rw (d .adopted j i, up)), λ k. go j k (stands j));
       }
     where
       go : (j : ℕ) → OuterChild u b j → Where j → j ∈ moved
-      go j k (At.is-new e) = absurd (At.no-parent-new t u b m ring moved w d m (rw (e, d .new, up) at (k .1)))
-      go j k (At.is-above _ _ _ _ _ e) = absurd (At.no-parent-new t u b m ring moved w d j (rw (e, up) at (k .1)))
+      go j k (At.is-new e) = absurd (At.no-parent-new w d m (rw (e, d .new, up) at (k .1)))
+      go j k (At.is-above _ _ _ _ _ e) = absurd (At.no-parent-new w d j (rw (e, up) at (k .1)))
       go j k (At.in-ring i) = absurd (rw (d .ringed j i) at (k .0))
       go j k (At.is-moved i) = i
-      go j k (At.elsewhere _ _ _ e) = absurd (At.no-parent-new t u b m ring moved w d j (rw (e, up) at (k .1)))
+      go j k (At.elsewhere _ _ _ e) = absurd (At.no-parent-new w d j (rw (e, up) at (k .1)))
 
   children-above : up t m ≢ none → Children u (up t m)
   children-above has =
-      one-child u (up t m) b (rw (d .placed has)) (At.some-new t u b m ring moved w d) new-siblingless (rw (d .new) tt, rw (d .new, up)) (λ j k. go j k (stands j))
+      one-child u (up t m) b (rw (d .placed has)) (At.some-new w d) new-siblingless (rw (d .new) tt, rw (d .new, up)) (λ j k. go j k (stands j))
     where
       was-meeting : (j : ℕ) → ¬ (j ∈ ring) → OuterChild t (up t m) j → ⊥
-      was-meeting j nr k = nr (rw (At.above-only t u b m ring moved w d has j k) (d .before .meets))
+      was-meeting j nr k = nr (rw (At.above-only w d has j k) (d .before .meets))
 
       go : (j : ℕ) → OuterChild u (up t m) j → Where j → j ≡ b
       go j k (At.is-new e) = e
       go j k (At.is-above _ _ o nr _ e) = absurd (was-meeting j nr (o, rw (e, up) at (k .1)))
       go j k (At.in-ring i) = absurd (rw (d .ringed j i) at (k .0))
-      go j k (At.is-moved i) = absurd (At.no-parent-new t u b m ring moved w d m (sym (rw (d .adopted j i, up) at (k .1))))
+      go j k (At.is-moved i) = absurd (At.no-parent-new w d m (sym (rw (d .adopted j i, up) at (k .1))))
       go j k (At.elsewhere _ nr _ e) = absurd (was-meeting j nr (rw e at (k .0), rw (e, up) at (k .1)))
 
   children-moved : (j : ℕ) → j ∈ moved → Children u j
@@ -166,16 +166,16 @@ module _ (t u : Table) (b m : ℕ) (ring moved : List ℕ) (w : Whole t) (d : Ma
       }
     where
       k : Children t j
-      k = w .core .children j (At.moved-outer t u b m ring moved w d j i)
+      k = w .core .children j (At.moved-outer w d j i)
 
       still : (c : ℕ) → OuterChild t j c → OuterChild u j c × (next u c ≡ next t c)
-      still c q = still-child j c (d .exact j .0 i .2) (At.moved-not-above t u b m ring moved w d j i) q
+      still c q = still-child j c (d .exact j .0 i .2) (At.moved-not-above w d j i) q
 
       was : (c : ℕ) → OuterChild u j c → Where c → OuterChild t j c
-      was c q (At.is-new e) = absurd (At.moved-not-above t u b m ring moved w d j i (sym (rw (e, d .new, up) at (q .1))))
+      was c q (At.is-new e) = absurd (At.moved-not-above w d j i (sym (rw (e, d .new, up) at (q .1))))
       was c q (At.is-above _ _ o _ _ e) = (o, rw (e, up) at (q .1))
       was c q (At.in-ring r) = absurd (rw (d .ringed c r) at (q .0))
-      was c q (At.is-moved r) = absurd (At.not-new t u b m ring moved w d j (At.moved-outer t u b m ring moved w d j i) (sym (rw (d .adopted c r, up) at (q .1))))
+      was c q (At.is-moved r) = absurd (At.not-new w d j (At.moved-outer w d j i) (sym (rw (d .adopted c r, up) at (q .1))))
       was c q (At.elsewhere _ _ _ e) = (rw e at (q .0), rw (e, up) at (q .1))
 
   -- ---- ways up
@@ -186,15 +186,15 @@ module _ (t u : Table) (b m : ℕ) (ring moved : List ℕ) (w : Whole t) (d : Ma
     where
       parent : (j : ℕ) → j ∈ cs → up u j ≡ up t j
       parent j i =
-          At.alike t u b m ring moved w d j (At.not-new t u b m ring moved w d j (upward-outer t (w .full) (w .core .kind) n o cs c j i)) (h j i)
-          (λ q. let r = d .exact j .0 q .1 in h (up t j) (chain-next (up t) n cs c j i (At.ring-some t u b m ring moved w d (up t j) r)) r) .parent
+          At.alike w d j (At.not-new w d j (upward-outer t (w .full) (w .core .kind) n o cs c j i)) (h j i)
+          (λ q. let r = d .exact j .0 q .1 in h (up t j) (chain-next (up t) n cs c j i (At.ring-some w d (up t j) r)) r) .parent
 
   way-above : up t m ≢ none → Upward u (up t m)
-  way-above has = way-still (up t m) (d .before .above) (At.above-is-outer t u b m ring moved w d has) (d .before .way) (d .before .off)
+  way-above has = way-still (up t m) (d .before .above) (At.above-is-outer w d has) (d .before .way) (d .before .off)
 
   way-new : Upward u b
   way-new =
-      let some = At.some-new t u b m ring moved w d in
+      let some = At.some-new w d in
       elim (same-or-not (up t m) none) [
         | inl z ↦ top-upward u b some (rw (d .new, up) z)
         | inr has ↦ next-upward u b (up t m) some (rw (d .new, up)) (way-above has)
@@ -209,7 +209,7 @@ module _ (t u : Table) (b m : ℕ) (ring moved : List ℕ) (w : Whole t) (d : Ma
       goes q nm has = (above-outer t (w .full) (w .core) n (q .0) has, λ i. nm (d .exact n .1 (q .0, i, q .1)))
 
       go : T (outer t n) × ¬ (n ∈ ring) → Where n → ((up t n ≢ none → T (outer t (up t n)) × ¬ (up t n ∈ ring)) → Upward u (up t n)) → Upward u n
-      go q (At.is-new e) ih = absurd (At.not-new t u b m ring moved w d n (q .0) e)
+      go q (At.is-new e) ih = absurd (At.not-new w d n (q .0) e)
       go q (At.is-above _ _ _ _ nm e) ih = next-upward u n (up t n) (c .1) (rw (e, up)) (ih (goes q nm))
       go q (At.in-ring i) ih = absurd (q .1 i)
       go q (At.is-moved i) ih = next-upward u n b (c .1) (rw (d .adopted n i, up)) way-new
@@ -222,7 +222,7 @@ module _ (t u : Table) (b m : ℕ) (ring moved : List ℕ) (w : Whole t) (d : Ma
       some-above n e o z = some-outer u (d .full) n o (e ∙ z)
 
       kinds : (n : ℕ) → n ∈ ws → T (outer u n) → Kind u n
-      kinds n (inl e) o = rw e (kind-new (w .core .kind m (At.meeting-outer t u b m ring moved w d)))
+      kinds n (inl e) o = rw e (kind-new (w .core .kind m (At.meeting-outer w d)))
       kinds n (inr (inl e)) o = rw e (kind-above (some-above n e o))
       kinds n (inr (inr i)) o = elim (in-append→ ring moved n i) [ inl r ↦ absurd (rw (d .ringed n r) at o) | inr r ↦ kind-moved n r ]
 
@@ -235,7 +235,7 @@ module _ (t u : Table) (b m : ℕ) (ring moved : List ℕ) (w : Whole t) (d : Ma
       was-outer n o (At.is-new e) = inl e
       was-outer n o (At.is-above _ _ p nr _ _) = inr (p, nr)
       was-outer n o (At.in-ring i) = absurd (rw (d .ringed n i) at o)
-      was-outer n o (At.is-moved i) = inr (At.moved-outer t u b m ring moved w d n i, d .exact n .0 i .2)
+      was-outer n o (At.is-moved i) = inr (At.moved-outer w d n i, d .exact n .0 i .2)
       was-outer n o (At.elsewhere _ nr _ e) = inr (rw e at o, nr)
 
       ways : (n : ℕ) → T (outer u n) → Upward u n

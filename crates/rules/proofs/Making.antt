@@ -42,7 +42,7 @@ use Rattle.rules.proofs.Gathering.{lists-of-256, Gathered, NodeGathered
 use Rattle.rules.proofs.Ringing.{RingedUp, RingedDown, Turned, ringed-up, ringed-down}
 use Rattle.rules.proofs.RoundTheRing.{InRing, round-up, round-down, turned-each}
 
-module _ (x y : ℕ) (l : Link) (t : Table) (o : OneTree t x y l) (slot : ¬ T (lacksBlossomSlot t)) where
+module _ {x y : ℕ} {l : Link} {t : Table} (o : OneTree t x y l) (slot : ¬ T (lacksBlossomSlot t)) where
   abbrev pub w : Whole t
   w = o .whole
 
@@ -82,7 +82,7 @@ module _ (x y : ℕ) (l : Link) (t : Table) (o : OneTree t x y l) (slot : ¬ T (
   ring = ringOfPaths t x y m paths
 
   tree : InTree t m ring
-  tree = Path.in-tree t x y m w (o .grows-1) (o .grows-2) paths
+  tree = Path.in-tree w (o .grows-1) (o .grows-2) paths
 
   not-new : (j : ℕ) → T (outer t j) → j ≢ b
   not-new j h e = omega (arith, below-next t (w .rest) j (outer-present (at t j .state) h))
@@ -112,7 +112,7 @@ module _ (x y : ℕ) (l : Link) (t : Table) (o : OneTree t x y l) (slot : ¬ T (
 
   not-above : (j : ℕ) → j ∈ ring → j ≢ up t m
   not-above j i e =
-      Path.no-ring-above t x y m w (o .grows-1) (o .grows-2) paths (rw e at i)
+      Path.no-ring-above w (o .grows-1) (o .grows-2) paths (rw e at i)
 
   -- ---- the children off the two paths
 
@@ -120,22 +120,22 @@ module _ (x y : ℕ) (l : Link) (t : Table) (o : OneTree t x y l) (slot : ¬ T (
   start = gathered-none t w b m ring v in-place left not-new (tree .outers) not-above (rw (in-place .here))
 
   first-not-meeting : (j : ℕ) → j ∈ xs → j ≢ m
-  first-not-meeting = Path.first-not-meeting t x y m w (o .grows-1) (o .grows-2) paths
+  first-not-meeting = Path.first-not-meeting w (o .grows-1) (o .grows-2) paths
 
   second-not-meeting : (j : ℕ) → j ∈ ys → j ≢ m
-  second-not-meeting = Path.second-not-meeting t x y m w (o .grows-1) (o .grows-2) paths
+  second-not-meeting = Path.second-not-meeting w (o .grows-1) (o .grows-2) paths
 
   first-in : (j : ℕ) → j ∈ xs → j ∈ ring
-  first-in = Path.first-in t x y m w (o .grows-1) (o .grows-2) paths
+  first-in = Path.first-in w (o .grows-1) (o .grows-2) paths
 
   second-in : (j : ℕ) → j ∈ ys → j ∈ ring
-  second-in = Path.second-in t x y m w (o .grows-1) (o .grows-2) paths
+  second-in = Path.second-in w (o .grows-1) (o .grows-2) paths
 
   first-once : NoDup xs
-  first-once = Path.first-once t x y m w (o .grows-1) (o .grows-2) paths
+  first-once = Path.first-once w (o .grows-1) (o .grows-2) paths
 
   second-once : NoDup ys
-  second-once = Path.second-once t x y m w (o .grows-1) (o .grows-2) paths
+  second-once = Path.second-once w (o .grows-1) (o .grows-2) paths
 
   -- the nodes of the first path, and of both
   abbrev pub done-1 : List ℕ
@@ -153,12 +153,12 @@ module _ (x y : ℕ) (l : Link) (t : Table) (o : OneTree t x y l) (slot : ¬ T (
   pub along-1 : PathGathered t b m ring v x x xs [] v
   along-1 =
       path-gathers t w b m ring v in-place left not-new (tree .outers) not-above above xs x x [] v (paths .way-1)
-      (stepped t m ring (inl refl) x xs (Path.side-1 t x y m w (o .grows-1) (o .grows-2) paths)) (λ z i. (first-in z i, first-not-meeting z i, λ k. k)) first-once start
+      (stepped t m ring (inl refl) x xs (Path.side-1 w (o .grows-1) (o .grows-2) paths)) (λ z i. (first-in z i, first-not-meeting z i, λ k. k)) first-once start
 
   pub along-2 : PathGathered t b m ring v y y ys done-1 (along-1 .table)
   along-2 =
       path-gathers t w b m ring v in-place left not-new (tree .outers) not-above above ys y y done-1 (along-1 .table) (paths .way-2)
-      (stepped t m ring (inl refl) y ys (Path.side-2 t x y m w (o .grows-1) (o .grows-2) paths)) (λ z i. (second-in z i, second-not-meeting z i, λ k. paths .apart z (in-done-1 z k) i)) second-once (along-1 .gathered)
+      (stepped t m ring (inl refl) y ys (Path.side-2 w (o .grows-1) (o .grows-2) paths)) (λ z i. (second-in z i, second-not-meeting z i, λ k. paths .apart z (in-done-1 z k) i)) second-once (along-1 .gathered)
 
   meeting-left : ¬ (m ∈ done-2)
   meeting-left i = elim (in-done-2 m i) [ inl k ↦ second-not-meeting m k refl | inr k ↦ first-not-meeting m k refl ]
@@ -166,7 +166,7 @@ module _ (x y : ℕ) (l : Link) (t : Table) (o : OneTree t x y l) (slot : ¬ T (
   pub at-meeting : NodeGathered t b ring v m (lastOr x xs) (lastOr y ys) done-2 (along-2 .table)
   at-meeting =
       node-gathers t w b m ring v in-place left not-new (tree .outers) not-above m (lastOr x xs) (lastOr y ys) done-2 (along-2 .table) (along-2 .gathered) (inl refl) meeting-left
-      (Path.below-meeting t x y m w (o .grows-1) (o .grows-2) paths)
+      (Path.below-meeting w (o .grows-1) (o .grows-2) paths)
 
   abbrev pub all : Gathered t b ring v (m ∷ done-2) (at-meeting .table)
   all = at-meeting .gathered
@@ -231,7 +231,7 @@ module _ (x y : ℕ) (l : Link) (t : Table) (o : OneTree t x y l) (slot : ¬ T (
   up-node j i = side-down .other j (not-turned j i) ∙ side-up .each j i
 
   link-upward : (j : ℕ) → j ∈ ring → j ≢ m → RightLink t j (at t j .link) (up t j)
-  link-upward = Path.link-upward t x y m w (o .grows-1) (o .grows-2) paths
+  link-upward = Path.link-upward w (o .grows-1) (o .grows-2) paths
 
   start-in : x ∈ ring
   start-in = go xs refl (paths .way-1)
@@ -324,7 +324,7 @@ module _ (x y : ℕ) (l : Link) (t : Table) (o : OneTree t x y l) (slot : ¬ T (
           ∙ in-place .above has
 
       numbers : (length ring % 2 ≡ 1) × (3 ≤ length ring)
-      numbers = Path.ring-numbers t x y m w (o .grows-1) (o .grows-2) paths (o .two)
+      numbers = Path.ring-numbers w (o .grows-1) (o .grows-2) paths (o .two)
 
       some-in : (j : ℕ) → j ∈ ring → j ≢ none
       some-in j i = some-outer t (w .full) j (tree .outers j i)
@@ -347,5 +347,4 @@ module _ (x y : ℕ) (l : Link) (t : Table) (o : OneTree t x y l) (slot : ¬ T (
 
 -- "one tree | make a blossom": a sound table with a slot left stays sound
 pub blossom-keeps : (x y : ℕ) (l : Link) (u : Table) → OneTree u x y l → ¬ T (lacksBlossomSlot u) → Whole (blossomInTree x y l u .table)
-blossom-keeps x y l u o slot =
-    made-whole u (blossomInTree x y l u .table) (b x y l u o slot) (m x y l u o slot) (ring x y l u o slot) (moved-list x y l u o slot) (o .whole) (blossom-made x y l u o slot)
+blossom-keeps x y l u o slot = made-whole (o .whole) (blossom-made o slot)

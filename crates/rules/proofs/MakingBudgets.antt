@@ -170,34 +170,34 @@ module _ (k : ℕ) (large : 256 ≤ k) (x y : ℕ) (l : Link) (t : Table) (o : O
   upward-by n q = chain-walk (up t) (suc k) n (upward t n) (upward-chain t (o .whole .full) (o .whole .core) n q) (omega (arith, upward-short t (o .whole .full) (o .whole .core) n q)) .1
 
   meeting-by : meetingBy k t x y ≡ m
-  meeting-by = ap₂ firstShared (upward-by x (M.outer-1 x y l t o slot)) (upward-by y (M.outer-2 x y l t o slot))
+  meeting-by = ap₂ firstShared (upward-by x (M.outer-1 o slot)) (upward-by y (M.outer-2 o slot))
 
   siblingless : next t m ≡ none
-  siblingless = grow-siblingless t (o .whole .core) m (M.paths x y l t o slot .grows)
+  siblingless = grow-siblingless t (o .whole .core) m (M.paths o slot .grows)
 
-  placed-by : blossomPlacedBy k b m (counted t) ≡ M.v x y l t o slot
+  placed-by : blossomPlacedBy k b m (counted t) ≡ M.v o slot
   placed-by = placed-first k b m (counted t) first
     where
       same-parent : up (counted t) m ≡ up t m
-      same-parent = ap (λ (s : Slot). s .parent) (counted-at t b m (o .whole .full) (M.left x y l t o slot) siblingless m)
+      same-parent = ap (λ (s : Slot). s .parent) (counted-at t b m (o .whole .full) (M.left o slot) siblingless m)
 
       first : up (counted t) m ≢ none → at (put (counted t) b (newBlossom m (at (counted t) m))) (up (counted t) m) .firstChild ≡ m
       first h =
-          let p = M.parent-place x y l t o slot (λ z. h (same-parent ∙ z)) in
+          let p = M.parent-place o slot (λ z. h (same-parent ∙ z)) in
           ap (λ (j : ℕ). at (put (counted t) b (newBlossom m (at (counted t) m))) j .firstChild) same-parent
-          ∙ ap (λ (s : Slot). s .firstChild) (stored-other t b m (o .whole .full) (M.left x y l t o slot) siblingless (up t m) (p .0))
+          ∙ ap (λ (s : Slot). s .firstChild) (stored-other t b m (o .whole .full) (M.left o slot) siblingless (up t m) (p .0))
           ∙ p .4
 
-  gathered-by : gatheredBy k b m x y (M.v x y l t o slot) ≡ M.at-meeting x y l t o slot .table
+  gathered-by : gatheredBy k b m x y (M.v o slot) ≡ M.at-meeting o slot .table
   unfolding gatheredBy
   gathered-by =
-      rw (M.along-1 x y l t o slot .reached k k large (omega (arith, M.short-1 x y l t o slot)), M.along-2 x y l t o slot .reached k k large (omega (arith, M.short-2 x y l t o slot)), M.last-1 x y l t o slot k large, M.last-2 x y l t o slot k large)
-      (M.at-meeting x y l t o slot .reached k large)
+      rw (M.along-1 o slot .reached k k large (omega (arith, M.short-1 o slot)), M.along-2 o slot .reached k k large (omega (arith, M.short-2 o slot)), M.last-1 o slot k large, M.last-2 o slot k large)
+      (M.at-meeting o slot .reached k large)
 
-  ringed-by : ringedBy k b m x y l (M.at-meeting x y l t o slot .table) ≡ M.u x y l t o slot
+  ringed-by : ringedBy k b m x y l (M.at-meeting o slot .table) ≡ M.u o slot
   unfolding ringedBy
   ringed-by =
-      rw (M.side-up x y l t o slot .reached k (omega (arith, M.short-1 x y l t o slot))) (M.side-down x y l t o slot .reached k (omega (arith, M.short-2 x y l t o slot)))
+      rw (M.side-up o slot .reached k (omega (arith, M.short-1 o slot))) (M.side-down o slot .reached k (omega (arith, M.short-2 o slot)))
 
   same-result : resultBy k x y l t (meetingBy k t x y) ≡ result x y l t m
   same-result =
@@ -205,7 +205,7 @@ module _ (k : ℕ) (large : 256 ≤ k) (x y : ℕ) (l : Link) (t : Table) (o : O
       ∙ ap (λ (u : Table). ringedBy k b m x y l (gatheredBy k b m x y u)) placed-by
       ∙ ap (ringedBy k b m x y l) gathered-by
       ∙ ringed-by
-      ∙ sym (ap (ringed b m x y l) (M.is-gathered x y l t o slot) ∙ M.is-ringed x y l t o slot)
+      ∙ sym (ap (ringed b m x y l) (M.is-gathered o slot) ∙ M.is-ringed o slot)
 
 pub budgets-suffice : (k : ℕ) → 256 ≤ k → (x y : ℕ) (l : Link) (t : Table) → OneTree t x y l → blossomInTreeBy k x y l t ≡ blossomInTree x y l t
 budgets-suffice k large x y l t o = by-slot k x y l t (same-result k large x y l t o)

@@ -52,10 +52,10 @@ module _ (x y : ℕ) (l : Link) (t : Table) (o : OneTree t x y l) (slot : ¬ T (
   upward-same n q = chain-walk (up t) k n (upward t n) (upward-chain t (o .whole .full) (o .whole .core) n q) (omega (arith, upward-short t (o .whole .full) (o .whole .core) n q)) .1
 
   pub upward-budget-1 : walk k (up t) x ≡ upward t x
-  upward-budget-1 = upward-same x (M.outer-1 x y l t o slot)
+  upward-budget-1 = upward-same x (M.outer-1 o slot)
 
   pub upward-budget-2 : walk k (up t) y ≡ upward t y
-  upward-budget-2 = upward-same y (M.outer-2 x y l t o slot)
+  upward-budget-2 = upward-same y (M.outer-2 o slot)
 
   -- ---- the place in the list
 
@@ -64,22 +64,22 @@ module _ (x y : ℕ) (l : Link) (t : Table) (o : OneTree t x y l) (slot : ¬ T (
   stored = put (withBlossoms t (t .blossoms + 1)) b (newBlossom m (at (withBlossoms t (t .blossoms + 1)) m))
 
   siblingless : next t m ≡ none
-  siblingless = grow-siblingless t (o .whole .core) m (M.paths x y l t o slot .grows)
+  siblingless = grow-siblingless t (o .whole .core) m (M.paths o slot .grows)
 
   stored-at : (j : ℕ) → j ≢ b → at stored j ≡ at t j
-  stored-at = stored-other t b m (o .whole .full) (M.left x y l t o slot) siblingless
+  stored-at = stored-other t b m (o .whole .full) (M.left o slot) siblingless
 
   pub relinked-budget : up t m ≢ none → relinked k (at stored (up t m) .firstChild) m b stored ≡ relinked 256 (at stored (up t m) .firstChild) m b stored
   relinked-budget has = alone k ∙ sym (alone 256)
     where
       outer-m : T (outer t m)
-      outer-m = rw (M.paths x y l t o slot .grows) tt
+      outer-m = rw (M.paths o slot .grows) tt
 
       first : at stored (up t m) .firstChild ≡ m
-      first = let p = M.parent-place x y l t o slot has in ap (λ (s : Slot). s .firstChild) (stored-at (up t m) (p .0)) ∙ p .4
+      first = let p = M.parent-place o slot has in ap (λ (s : Slot). s .firstChild) (stored-at (up t m) (p .0)) ∙ p .4
 
       last : next stored m ≡ none
-      last = let p = M.parent-place x y l t o slot has in ap (λ (s : Slot). s .sibling) (stored-at m (p .1)) ∙ siblingless
+      last = let p = M.parent-place o slot has in ap (λ (s : Slot). s .sibling) (stored-at m (p .1)) ∙ siblingless
 
       alone : (j : ℕ) → relinked j (at stored (up t m) .firstChild) m b stored ≡ stored
       alone j = ap (λ (n : ℕ). relinked j n m b stored) first ∙ relinked-one j m m b stored last (some-outer t (o .whole .full) m outer-m)
@@ -96,46 +96,46 @@ module _ (x y : ℕ) (l : Link) (t : Table) (o : OneTree t x y l) (slot : ¬ T (
   abbrev after-y : Table
   after-y = movedUpTo 256 b m y y after-x
 
-  is-after-x : after-x ≡ M.along-1 x y l t o slot .table
-  is-after-x = M.is-along-1 x y l t o slot 256 (omega arith)
+  is-after-x : after-x ≡ M.along-1 o slot .table
+  is-after-x = M.is-along-1 o slot 256 (omega arith)
 
-  is-after-y : after-y ≡ M.along-2 x y l t o slot .table
-  is-after-y = ap (movedUpTo 256 b m y y) is-after-x ∙ M.is-along-2 x y l t o slot 256 (omega arith)
+  is-after-y : after-y ≡ M.along-2 o slot .table
+  is-after-y = ap (movedUpTo 256 b m y y) is-after-x ∙ M.is-along-2 o slot 256 (omega arith)
 
   pub path-budget-1 : movedUpTo k b m x x in-place ≡ after-x
-  path-budget-1 = M.is-along-1 x y l t o slot k large ∙ sym is-after-x
+  path-budget-1 = M.is-along-1 o slot k large ∙ sym is-after-x
 
   pub path-budget-2 : movedUpTo k b m y y after-x ≡ after-y
-  path-budget-2 = ap (movedUpTo k b m y y) is-after-x ∙ M.is-along-2 x y l t o slot k large ∙ sym is-after-y
+  path-budget-2 = ap (movedUpTo k b m y y) is-after-x ∙ M.is-along-2 o slot k large ∙ sym is-after-y
 
   -- .. with k for each node's child list
   pub lists-budget-1 : movedUpToBy k 256 b m x x in-place ≡ after-x
-  lists-budget-1 = M.along-1 x y l t o slot .reached k 256 large (omega (arith, M.short-1 x y l t o slot)) ∙ sym is-after-x
+  lists-budget-1 = M.along-1 o slot .reached k 256 large (omega (arith, M.short-1 o slot)) ∙ sym is-after-x
 
   pub lists-budget-2 : movedUpToBy k 256 b m y y after-x ≡ after-y
-  lists-budget-2 = ap (movedUpToBy k 256 b m y y) is-after-x ∙ M.along-2 x y l t o slot .reached k 256 large (omega (arith, M.short-2 x y l t o slot)) ∙ sym is-after-y
+  lists-budget-2 = ap (movedUpToBy k 256 b m y y) is-after-x ∙ M.along-2 o slot .reached k 256 large (omega (arith, M.short-2 o slot)) ∙ sym is-after-y
 
   pub last-budget-1 : lastBelow k m x x in-place ≡ lastBelow 256 m x x in-place
-  last-budget-1 = M.last-1 x y l t o slot k large ∙ sym (M.last-1 x y l t o slot 256 (omega arith))
+  last-budget-1 = M.last-1 o slot k large ∙ sym (M.last-1 o slot 256 (omega arith))
 
   pub last-budget-2 : lastBelow k m y y in-place ≡ lastBelow 256 m y y in-place
-  last-budget-2 = M.last-2 x y l t o slot k large ∙ sym (M.last-2 x y l t o slot 256 (omega arith))
+  last-budget-2 = M.last-2 o slot k large ∙ sym (M.last-2 o slot 256 (omega arith))
 
   pub meeting-budget : moved k b (lastBelow 256 m x x in-place) (lastBelow 256 m y y in-place) (at after-y m .firstChild) after-y ≡ gathered b m x y in-place
   meeting-budget =
-      rw (is-after-y, M.last-1 x y l t o slot 256 (omega arith), M.last-2 x y l t o slot 256 (omega arith))
-      (M.at-meeting x y l t o slot .reached k large ∙ sym (M.is-gathered x y l t o slot))
+      rw (is-after-y, M.last-1 o slot 256 (omega arith), M.last-2 o slot 256 (omega arith))
+      (M.at-meeting o slot .reached k large ∙ sym (M.is-gathered o slot))
 
   -- ---- the ring
 
   abbrev gone-up : Table
   gone-up = ringUp 256 b m x (gathered b m x y in-place)
 
-  is-up : (j : ℕ) → 256 ≤ j → ringUp j b m x (gathered b m x y in-place) ≡ M.side-up x y l t o slot .table
-  is-up j h = ap (ringUp j b m x) (M.is-gathered x y l t o slot) ∙ M.side-up x y l t o slot .reached j (omega (arith, M.short-1 x y l t o slot))
+  is-up : (j : ℕ) → 256 ≤ j → ringUp j b m x (gathered b m x y in-place) ≡ M.side-up o slot .table
+  is-up j h = ap (ringUp j b m x) (M.is-gathered o slot) ∙ M.side-up o slot .reached j (omega (arith, M.short-1 o slot))
 
-  is-down : (j : ℕ) → 256 ≤ j → ringDown j b m x l y gone-up ≡ M.side-down x y l t o slot .table
-  is-down j h = ap (ringDown j b m x l y) (is-up 256 (omega arith)) ∙ M.side-down x y l t o slot .reached j (omega (arith, M.short-2 x y l t o slot))
+  is-down : (j : ℕ) → 256 ≤ j → ringDown j b m x l y gone-up ≡ M.side-down o slot .table
+  is-down j h = ap (ringDown j b m x l y) (is-up 256 (omega arith)) ∙ M.side-down o slot .reached j (omega (arith, M.short-2 o slot))
 
   pub ring-budget-1 : ringUp k b m x (gathered b m x y in-place) ≡ gone-up
   ring-budget-1 = is-up k large ∙ sym (is-up 256 (omega arith))

@@ -140,7 +140,7 @@ module _ (t : Table) (m : ℕ) (ring : List ℕ) (meets : m ∈ ring) (a : ℕ) 
 abbrev pub ringOfPaths : (t : Table) (x y m : ℕ) → TwoPaths t x y m → List ℕ
 ringOfPaths t x y m p = m ∷ onto (p .ys) (p .xs)
 
-module _ (t : Table) (x y m : ℕ) (w : Whole t) (grows-1 : at t x .state ≡ S.Grow) (grows-2 : at t y .state ≡ S.Grow) (p : TwoPaths t x y m) where
+module _ {t : Table} {x y m : ℕ} (w : Whole t) (grows-1 : at t x .state ≡ S.Grow) (grows-2 : at t y .state ≡ S.Grow) (p : TwoPaths t x y m) where
   abbrev ring : List ℕ
   ring = ringOfPaths t x y m p
 
