@@ -93,46 +93,54 @@ pub record PathGathered (t : Table) (b m : ℕ) (ring : List ℕ) (v : Table) (b
   pub reached : (lists k : ℕ) → 256 ≤ lists → length zs ≤ k → movedUpToBy lists k b m below n u ≡ table
   pub gathered : Gathered t b ring v (onto zs done) table
 
-module _ (t : Table) (w : Whole t) (b m : ℕ) (ring : List ℕ) (v : Table) (placed : Placed t b m v) (left : b < 256) (not-new : (j : ℕ) → T (outer t j) → j ≢ b) (outers : (j : ℕ) → j ∈ ring → T (outer t j)) (not-above : (j : ℕ) → j ∈ ring → j ≢ up t m) where
+-- v is t with the blossom b in the place of m, and the ring is of outer nodes below m's parent
+pub record Site (t : Table) (b m : ℕ) (ring : List ℕ) (v : Table) : Type 0 where
+  pub placed : Placed t b m v
+  pub left : b < 256
+  pub not-new : (j : ℕ) → T (outer t j) → j ≢ b
+  pub outers : (j : ℕ) → j ∈ ring → T (outer t j)
+  pub not-above : (j : ℕ) → j ∈ ring → j ≢ up t m
+
+module _ {t : Table} {b m : ℕ} {ring : List ℕ} {v : Table} (w : Whole t) (site : Site t b m ring v) where
   ring-placed : (j : ℕ) → j ∈ ring → at v j ≡ at t j
-  ring-placed j i = placed .other j (not-new j (outers j i)) (not-above j i)
+  ring-placed j i = site .placed .other j (site .not-new j (site .outers j i)) (site .not-above j i)
 
   -- siblings and parents are as they were
   pub sibling-placed : (j : ℕ) → j ≢ b → next v j ≡ next t j
   sibling-placed j d = go (same-or-not j (up t m)) (same-or-not (up t m) none)
     where
       go : (j ≡ up t m) ⊎ (j ≢ up t m) → (up t m ≡ none) ⊎ (up t m ≢ none) → next v j ≡ next t j
-      go (inr q) h = ap (λ (s : Slot). s .sibling) (placed .other j d q)
-      go (inl e) (inl z) = rw (e ∙ z) (ap (λ (s : Slot). s .sibling) (at-none v (placed .full) ∙ sym (at-none t (w .full))))
-      go (inl e) (inr q) = rw e (ap (λ (s : Slot). s .sibling) (placed .above q))
+      go (inr q) h = ap (λ (s : Slot). s .sibling) (site .placed .other j d q)
+      go (inl e) (inl z) = rw (e ∙ z) (ap (λ (s : Slot). s .sibling) (at-none v (site .placed .full) ∙ sym (at-none t (w .full))))
+      go (inl e) (inr q) = rw e (ap (λ (s : Slot). s .sibling) (site .placed .above q))
 
   -- ---- what has moved so far
 
   pub gathered-none : at v b .firstChild ≡ none → Gathered t b ring v [] v
-  gathered-none e = record { list = []; taken = taken-none v b (placed .full) e; exact = λ j. (λ i. absurd i, λ q. q .1) }
+  gathered-none e = record { list = []; taken = taken-none v b (site .placed .full) e; exact = λ j. (λ i. absurd i, λ q. q .1) }
 
   pub ring-untouched : (done : List ℕ) (u : Table) → Gathered t b ring v done u → (j : ℕ) → j ∈ ring → at u j ≡ at t j
-  ring-untouched done u g j i = g .taken .other j (not-new j (outers j i)) (λ k. g .exact j .0 k .2 i) ∙ ring-placed j i
+  ring-untouched done u g j i = g .taken .other j (site .not-new j (site .outers j i)) (λ k. g .exact j .0 k .2 i) ∙ ring-placed j i
 
   -- ---- one node's children
 
   module _ (n e f : ℕ) (done : List ℕ) (u : Table) (g : Gathered t b ring v done u) (on : n ∈ ring) (new : ¬ (n ∈ done)) (only : InRingOnly t ring n e f) where
     outer-n : T (outer t n)
-    outer-n = outers n on
+    outer-n = site .outers n on
 
     kids : Children t n
     kids = w .core .children n outer-n
 
     chain : Chain (next v) (at t n .firstChild) (kids .list)
-    chain = chain-frame (next t) (next v) (at t n .firstChild) (kids .list) (λ j i. sym (sibling-placed j (not-new j (kids .exact j .0 i .0)))) (kids .chain)
+    chain = chain-frame (next t) (next v) (at t n .firstChild) (kids .list) (λ j i. sym (sibling-placed j (site .not-new j (kids .exact j .0 i .0)))) (kids .chain)
 
     ok : (j : ℕ) → j ∈ kids .list → Free b (g .list) j
     ok j i =
         let k = kids .exact j .0 i in
-        (outer-below t (w .full) j (k .0), not-new j (k .0), λ q. new (rw (k .1) at (g .exact j .0 q .1)))
+        (outer-below t (w .full) j (k .0), site .not-new j (k .0), λ q. new (rw (k .1) at (g .exact j .0 q .1)))
 
     walk : Moved v b e f (at t n .firstChild) (kids .list) (g .list) u
-    walk = moved-along v b e f left (at t n .firstChild) (kids .list) (g .list) u (g .taken) chain ok
+    walk = moved-along v b e f (site .left) (at t n .firstChild) (kids .list) (g .list) u (g .taken) chain ok
 
     short : length (kids .list) ≤ 256
     short = chain-fits (next t) 256 (at t n .firstChild) (kids .list) (kids .chain) (λ j i. ok j i .0)

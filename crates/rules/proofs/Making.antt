@@ -38,7 +38,7 @@ use Rattle.rules.proofs.MadeInside.{made-whole}
 use Rattle.rules.proofs.RingOfPaths as Path
 use Rattle.rules.proofs.RingOfPaths.{onto, onto→, →onto, lastOr, ringOfPaths, Stepped, stepped}
 use Rattle.rules.proofs.Placing.{Placed, placed}
-use Rattle.rules.proofs.Gathering.{lists-of-256, Gathered, NodeGathered, PathGathered, gathered-none, ring-untouched, node-gathers, path-gathers, last-found}
+use Rattle.rules.proofs.Gathering.{lists-of-256, Site, Gathered, NodeGathered, PathGathered, gathered-none, ring-untouched, node-gathers, path-gathers, last-found}
 use Rattle.rules.proofs.Ringing.{RingedUp, RingedDown, Turned, ringed-up, ringed-down}
 use Rattle.rules.proofs.RoundTheRing.{InRing, round-up, round-down, turned-each}
 
@@ -116,8 +116,11 @@ module _ {x y : ℕ} {l : Link} {t : Table} (o : OneTree t x y l) (slot : ¬ T (
 
   -- ---- the children off the two paths
 
+  site : Site t b m ring v
+  site = record { placed = in-place; left = left; not-new = not-new; outers = tree .outers; not-above = not-above }
+
   start : Gathered t b ring v [] v
-  start = gathered-none t w b m ring v in-place left not-new (tree .outers) not-above (rw (in-place .here))
+  start = gathered-none w site (rw (in-place .here))
 
   first-not-meeting : (j : ℕ) → j ∈ xs → j ≢ m
   first-not-meeting = Path.first-not-meeting w (o .grows-1) (o .grows-2) paths
@@ -152,12 +155,12 @@ module _ {x y : ℕ} {l : Link} {t : Table} (o : OneTree t x y l) (slot : ¬ T (
 
   pub along-1 : PathGathered t b m ring v x x xs [] v
   along-1 =
-      path-gathers t w b m ring v in-place left not-new (tree .outers) not-above above xs x x [] v (paths .way-1)
+      path-gathers w site above xs x x [] v (paths .way-1)
       (stepped t m ring (inl refl) x xs (Path.side-1 w (o .grows-1) (o .grows-2) paths)) (λ z i. (first-in z i, first-not-meeting z i, λ k. k)) first-once start
 
   pub along-2 : PathGathered t b m ring v y y ys done-1 (along-1 .table)
   along-2 =
-      path-gathers t w b m ring v in-place left not-new (tree .outers) not-above above ys y y done-1 (along-1 .table) (paths .way-2)
+      path-gathers w site above ys y y done-1 (along-1 .table) (paths .way-2)
       (stepped t m ring (inl refl) y ys (Path.side-2 w (o .grows-1) (o .grows-2) paths)) (λ z i. (second-in z i, second-not-meeting z i, λ k. paths .apart z (in-done-1 z k) i)) second-once (along-1 .gathered)
 
   meeting-left : ¬ (m ∈ done-2)
@@ -165,7 +168,7 @@ module _ {x y : ℕ} {l : Link} {t : Table} (o : OneTree t x y l) (slot : ¬ T (
 
   pub at-meeting : NodeGathered t b ring v m (lastOr x xs) (lastOr y ys) done-2 (along-2 .table)
   at-meeting =
-      node-gathers t w b m ring v in-place left not-new (tree .outers) not-above m (lastOr x xs) (lastOr y ys) done-2 (along-2 .table) (along-2 .gathered) (inl refl) meeting-left
+      node-gathers w site m (lastOr x xs) (lastOr y ys) done-2 (along-2 .table) (along-2 .gathered) (inl refl) meeting-left
       (Path.below-meeting w (o .grows-1) (o .grows-2) paths)
 
   abbrev pub all : Gathered t b ring v (m ∷ done-2) (at-meeting .table)
@@ -179,10 +182,10 @@ module _ {x y : ℕ} {l : Link} {t : Table} (o : OneTree t x y l) (slot : ¬ T (
   short-2 = omega (arith, upward-fits t (w .full) (w .core .kind) y outer-2 (ys ++ (m ∷ above)) (paths .way-2), length-append ys (m ∷ above))
 
   pub last-1 : (k : ℕ) → 256 ≤ k → lastBelow k m x x v ≡ lastOr x xs
-  last-1 k h = last-found t w b m ring v in-place left not-new (tree .outers) not-above above xs x x k (paths .way-1) (λ z i. (first-in z i, first-not-meeting z i)) (omega (arith, short-1))
+  last-1 k h = last-found w site above xs x x k (paths .way-1) (λ z i. (first-in z i, first-not-meeting z i)) (omega (arith, short-1))
 
   pub last-2 : (k : ℕ) → 256 ≤ k → lastBelow k m y y v ≡ lastOr y ys
-  last-2 k h = last-found t w b m ring v in-place left not-new (tree .outers) not-above above ys y y k (paths .way-2) (λ z i. (second-in z i, second-not-meeting z i)) (omega (arith, short-2))
+  last-2 k h = last-found w site above ys y y k (paths .way-2) (λ z i. (second-in z i, second-not-meeting z i)) (omega (arith, short-2))
 
   pub is-along-1 : (k : ℕ) → 256 ≤ k → movedUpTo k b m x x v ≡ along-1 .table
   is-along-1 k h = lists-of-256 k b m x x v ∙ along-1 .reached 256 k (omega arith) (omega (arith, short-1))
@@ -197,7 +200,7 @@ module _ {x y : ℕ} {l : Link} {t : Table} (o : OneTree t x y l) (slot : ¬ T (
   -- ---- the ring
 
   fit : (j : ℕ) → j ∈ ring → (j < 256) × (at (at-meeting .table) j ≡ at t j)
-  fit j i = (outer-below t (w .full) j (tree .outers j i), ring-untouched t w b m ring v in-place left not-new (tree .outers) not-above (m ∷ done-2) (at-meeting .table) all j i)
+  fit j i = (outer-below t (w .full) j (tree .outers j i), ring-untouched w site (m ∷ done-2) (at-meeting .table) all j i)
 
   pub side-up : RingedUp t b m x xs (at-meeting .table)
   side-up = ringed-up t b m above xs x (at-meeting .table) (all .taken .full) (paths .way-1) (λ z i. (fit z (first-in z i), first-not-meeting z i)) first-once
