@@ -6,19 +6,20 @@ use mathlib.Core.Bool.{_||_}
 use mathlib.Core.List.{List, [], _∷_}
 use Prim.Native.Nat.{ℕ, zero, suc, _≤_, _<_}
 use native.Mathlib.Omega.{arith}
-use lib.Dec.{T, eqb}
+use lib.Dec.{eqb}
 use lib.ListN.{length}
 use Rattle.slot.specs.Number.{none}
 use Rattle.slot.specs.Slot.{Slot}
 use Rattle.table.specs.Table.{Table, at, put}
 use Rattle.table.proofs.Laws.{Full, at-put-same, at-put-other, put-full}
-use Rattle.rules.specs.Act.{choose, alter, same}
+use Rattle.rules.specs.Act.{choose, alter}
 use Rattle.rules.specs.Slots.{withParent, withFirstChild, withSibling, next}
 use Rattle.rules.specs.Blossom.{adopted, moved}
-use Rattle.rules.specs.Chain.{_∈_, NoDup, Chain}
+use Rattle.rules.specs.Chain.{_∈_, Chain}
 use Rattle.rules.proofs.Reflect.{eqb-yes, eqb-no, eq→eqb, same-or-not, test-true, →or}
 use Rattle.rules.proofs.Chains.{chain-nodup, chain-frame}
 use Rattle.rules.proofs.Renewing.{SameCounts, alter-full}
+use Rattle.rules.proofs.Cleared.{counts-then}
 
 -- ---- one child
 
@@ -44,9 +45,6 @@ adopted-full t b c full = alter-full c _ _ (alter-full b _ t full)
 adopted-counts : (t : Table) (b c : ℕ) → SameCounts t (adopted b c t)
 unfolding adopted alter put
 adopted-counts t b c = record { begin = refl; defects = refl; blossoms = refl }
-
-pub counts-then : (t u v : Table) → SameCounts t u → SameCounts u v → SameCounts t v
-counts-then t u v p q = record { begin = q .begin ∙ p .begin; defects = q .defects ∙ p .defects; blossoms = q .blossoms ∙ p .blossoms }
 
 -- ---- all that are taken over so far
 
@@ -129,9 +127,9 @@ pub record Moved (t : Table) (b x y c : ℕ) (cs now : List ℕ) (v : Table) : T
   pub taken : Taken t b list table
   pub exact : (j : ℕ) → (j ∈ list) ↔ ((j ∈ now) ⊎ ((j ∈ cs) × (j ≢ x) × (j ≢ y)))
 
--- what may be taken over
-abbrev pub Free : ℕ → List ℕ → ℕ → Type 0
-Free b now j = (j < 256) × (j ≢ b) × ¬ (j ∈ now)
+-- a number that may be taken over
+abbrev pub Untaken : ℕ → List ℕ → ℕ → Type 0
+Untaken b now j = (j < 256) × (j ≢ b) × ¬ (j ∈ now)
 
 module _ (t : Table) (b x y : ℕ) (below-b : b < 256) where
   step-past :
@@ -187,18 +185,18 @@ module _ (t : Table) (b x y : ℕ) (below-b : b < 256) where
 
   -- from any table and list that the walk has come to
   abbrev Along : ℕ → List ℕ → Type 0
-  Along c cs = (now : List ℕ) (v : Table) → Taken t b now v → Chain (next t) c cs → ((j : ℕ) → j ∈ cs → Free b now j) → Moved t b x y c cs now v
+  Along c cs = (now : List ℕ) (v : Table) → Taken t b now v → Chain (next t) c cs → ((j : ℕ) → j ∈ cs → Untaken b now j) → Moved t b x y c cs now v
 
-  one-more : (c : ℕ) (cs now : List ℕ) (v : Table) → Taken t b now v → Chain (next t) c (c ∷ cs) → ((j : ℕ) → j ∈ (c ∷ cs) → Free b now j) → Along (next t c) cs → Moved t b x y c (c ∷ cs) now v
+  one-more : (c : ℕ) (cs now : List ℕ) (v : Table) → Taken t b now v → Chain (next t) c (c ∷ cs) → ((j : ℕ) → j ∈ (c ∷ cs) → Untaken b now j) → Along (next t c) cs → Moved t b x y c (c ∷ cs) now v
   one-more c cs now v taken ch ok ih = go (same-or-not c x) (same-or-not c y)
     where
-      mine : Free b now c
+      mine : Untaken b now c
       mine = ok c (inl refl)
 
       sibling : next v c ≡ next t c
       sibling = ap (λ (s : Slot). s .sibling) (taken .other c (mine .1) (mine .2))
 
-      later : (j : ℕ) → j ∈ cs → Free b (c ∷ now) j
+      later : (j : ℕ) → j ∈ cs → Untaken b (c ∷ now) j
       later j i = let q = ok j (inr i) in (q .0, q .1, elim [ inl e ↦ chain-nodup (next t) c (c ∷ cs) ch .0 (rw e at i) | inr k ↦ q .2 k ])
 
       past : (c ≡ x) ⊎ (c ≡ y) → Moved t b x y c (c ∷ cs) now v

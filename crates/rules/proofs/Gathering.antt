@@ -15,13 +15,12 @@ use Rattle.rules.specs.Act.{choose, same}
 use Rattle.rules.specs.Slots.{up, next}
 use Rattle.rules.specs.Blossom.{moved, movedUpTo, lastBelow}
 use Rattle.rules.specs.Chain.{_∈_, NoDup, Chain}
-use Rattle.rules.specs.FactsOfNodes.{OuterChild, Children}
+use Rattle.rules.specs.FactsOfNodes.{Children}
 use Rattle.rules.proofs.Reflect.{eqb-yes, eqb-no, same-or-not}
 use Rattle.rules.proofs.Chains.{chain-frame, chain-fits}
 use Rattle.rules.proofs.Past.{at-none, outer-below}
 use Rattle.rules.proofs.Renewing.{Whole}
-use Rattle.rules.proofs.MadeBlossom.{OffPath}
-use Rattle.rules.proofs.Adopting.{Taken, taken-none, Moved, Free, moved-along}
+use Rattle.rules.proofs.Adopting.{Taken, taken-none, Moved, Untaken, moved-along}
 use Rattle.rules.proofs.RingOfPaths.{onto, lastOr, InRingOnly, Stepped}
 use Rattle.rules.proofs.Placing.{Placed}
 
@@ -134,7 +133,7 @@ module _ {t : Table} {b m : ℕ} {ring : List ℕ} {v : Table} (w : Whole t) (si
     chain : Chain (next v) (at t n .firstChild) (kids .list)
     chain = chain-frame (next t) (next v) (at t n .firstChild) (kids .list) (λ j i. sym (sibling-placed j (site .not-new j (kids .exact j .0 i .0)))) (kids .chain)
 
-    ok : (j : ℕ) → j ∈ kids .list → Free b (g .list) j
+    ok : (j : ℕ) → j ∈ kids .list → Untaken b (g .list) j
     ok j i =
         let k = kids .exact j .0 i in
         (outer-below t (w .full) j (k .0), site .not-new j (k .0), λ q. new (rw (k .1) at (g .exact j .0 q .1)))

@@ -1,9 +1,8 @@
 -- Making a blossom touches no node of another tree, no pair, no single node and no node inside a blossom.
 use mathlib.Core.Path.{_≡_, refl, sym, _∙_}
 use mathlib.Core.Logic.{_≢_, inl, inr}
-use mathlib.Core.List.{List, [], _∷_, _++_}
+use mathlib.Core.List.{List, _∷_, _++_}
 use Prim.Native.Nat.{ℕ, _+_}
-use native.Mathlib.Omega.{arith}
 use lib.Dec.{T}
 use Rattle.slot.specs.Slot.{Link}
 use Rattle.slot.specs.Number.{none}
@@ -14,7 +13,6 @@ use Rattle.rules.specs.Trees.{upward, root, meeting}
 use Rattle.rules.specs.Blossom.{lacksBlossomSlot}
 use Rattle.rules.specs.Conflict.{blossomInTree}
 use Rattle.rules.specs.Chain.{_∈_}
-use Rattle.rules.proofs.Reflect.{same-or-not}
 use Rattle.rules.proofs.Members.{in-left, in-right}
 use Rattle.rules.proofs.ChildLaws.{above-outer}
 use Rattle.rules.proofs.Chains.{chain-start}
@@ -71,11 +69,11 @@ module _ (x y : ℕ) (l : Link) (t : Table) (o : OneTree t x y l) (slot : ¬ T (
   blossom-others j q far =
       made .other j (not-new w made j q) (λ i. far (root-ring j i))
       (λ i.
-          let f = made .exact j .0 i in
-          far (sym (root-up j q (some-outer t (w .full) (up t j) (made .before .outers (up t j) (f .1)))) ∙ root-ring (up t j) (f .1)))
+      let f = made .exact j .0 i in
+      far (sym (root-up j q (some-outer t (w .full) (up t j) (made .before .outers (up t j) (f .1)))) ∙ root-ring (up t j) (f .1)))
       (λ e.
-          let has : up t m ≢ none = λ z. some-outer t (w .full) j q (e ∙ z) in
-          far (rw e (root-up m (made .before .outers m (made .before .meets)) has ∙ root-meeting)))
+      let has : up t m ≢ none = λ z. some-outer t (w .full) j q (e ∙ z) in
+      far (rw e (root-up m (made .before .outers m (made .before .meets)) has ∙ root-meeting)))
     where
       b : ℕ
       b = t .begin + t .blossoms

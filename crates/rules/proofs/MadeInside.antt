@@ -2,13 +2,13 @@
 use mathlib.Core.Path.{_≡_, refl, ap, sym, subst, _∙_}
 use mathlib.Core.Logic.{_≢_, _⊎_, inl, inr}
 use mathlib.Core.List.{List}
-use Prim.Native.Nat.{ℕ, suc, _≤_, _<_}
+use Prim.Native.Nat.{ℕ}
 use native.Mathlib.Omega.{arith}
 use lib.Dec.{T, eqb}
 use Rattle.lists.specs.Choice.{pick}
 use Rattle.slot.specs.declared.state.State.{State}
 use Rattle.slot.specs.declared.state.State.the-variants as S
-use Rattle.slot.specs.State.{isInner, isPresent}
+use Rattle.slot.specs.State.{isPresent}
 use Rattle.slot.specs.Number.{none}
 use Rattle.slot.specs.Slot.{Slot}
 use Rattle.table.specs.Table.{Table, at}
@@ -16,7 +16,7 @@ use Rattle.nodes.specs.Nodes.{present, outer, inner}
 use Rattle.rules.specs.Slots.{withParent, withFirstChild, withSibling, up, next}
 use Rattle.rules.specs.Blossom.{enclosed, newBlossom}
 use Rattle.rules.specs.Sound.{nextInRing}
-use Rattle.rules.specs.Chain.{_∈_, Chain}
+use Rattle.rules.specs.Chain.{_∈_}
 use Rattle.rules.specs.FactsOfBlossoms.{PresentBlossom, Ring, InBlossom, Inside, DefectInside, Touches}
 use Rattle.rules.specs.Facts.{Sizes, Given, Pointers, Rest}
 use Rattle.rules.proofs.Reflect.{same-or-not, eqb-no}

@@ -6,9 +6,7 @@ use mathlib.Core.List.{List}
 use Prim.Native.Nat.{ℕ, _+_, _<_}
 use native.Mathlib.Omega.{arith}
 use lib.Dec.{T}
-use Rattle.slot.specs.declared.state.State.{State}
 use Rattle.slot.specs.declared.state.State.the-variants as S
-use Rattle.slot.specs.State.{isOuter}
 use Rattle.slot.specs.Number.{none}
 use Rattle.slot.specs.Slot.{Slot}
 use Rattle.table.specs.Table.{Table, at}

@@ -1,17 +1,16 @@
 -- A table on which a blossom is made: its outer nodes hang together as they must (S3, S4, S5, S7 of outer nodes).
-use mathlib.Core.Path.{_≡_, refl, ap, sym, _∙_}
+use mathlib.Core.Path.{_≡_, refl, sym, _∙_}
 use mathlib.Core.Logic.{_≢_, _⊎_, inl, inr}
 use mathlib.Core.List.{List, [], _∷_, _++_}
 use Prim.Native.Nat.{ℕ}
 use lib.Dec.{T}
-use Rattle.slot.specs.declared.state.State.the-variants as S
 use Rattle.slot.specs.Number.{none}
 use Rattle.slot.specs.Slot.{noLink}
 use Rattle.table.specs.Table.{Table, at}
 use Rattle.nodes.specs.Nodes.{outer}
 use Rattle.rules.specs.Slots.{up, next}
 use Rattle.rules.specs.Chain.{_∈_, Chain}
-use Rattle.rules.specs.FactsOfNodes.{Paired, Minus, Kind, free-node, virtual-node, paired-node, root-node, minus-node, plus-node, OuterChild, Children, Upward}
+use Rattle.rules.specs.FactsOfNodes.{Paired, Kind, free-node, virtual-node, paired-node, root-node, minus-node, plus-node, OuterChild, Children, Upward}
 use Rattle.rules.specs.Facts.{Core}
 use Rattle.rules.proofs.Reflect.{same-or-not}
 use Rattle.rules.proofs.ReflectSlots.{grow-shrink, stay-grow, stay-shrink}
@@ -22,7 +21,7 @@ use Rattle.rules.proofs.Past.{present-some}
 use Rattle.rules.proofs.ChildLaws.{above-outer}
 use Rattle.rules.proofs.Frames.{some-outer, one-child, top-upward, next-upward, SeenAlike, core-frame}
 use Rattle.rules.proofs.Renewing.{Whole}
-use Rattle.rules.proofs.MadeBlossom.{InTree, Made}
+use Rattle.rules.proofs.MadeBlossom.{Made}
 use Rattle.rules.proofs.MadeSlots as At
 
 module _ {t u : Table} {b m : ℕ} {ring moved : List ℕ} (w : Whole t) (d : Made t u b m ring moved) where

@@ -1,20 +1,19 @@
 -- Making a blossom, step by step: what the rule leaves in each slot of a sound table, and so that it keeps it sound.
-use mathlib.Core.Path.{_≡_, refl, ap, sym, subst, _∙_}
+use mathlib.Core.Path.{_≡_, refl, ap, sym, _∙_}
 use mathlib.Core.Logic.{_≢_, _⊎_, inl, inr}
 use mathlib.Core.List.{List, [], _∷_, _++_}
-use Prim.Native.Nat.{ℕ, suc, _+_, _%_, _≤_, _<_}
+use Prim.Native.Nat.{ℕ, _+_, _%_, _≤_, _<_}
 use native.Mathlib.Omega.{arith}
 use lib.Dec.{T}
 use lib.ListN.{length, length-append}
-use Rattle.slot.specs.declared.state.State.the-variants as S
 use Rattle.slot.specs.Number.{none}
 use Rattle.slot.specs.Slot.{Link, Slot}
 use Rattle.table.specs.Table.{Table, at}
 use Rattle.nodes.specs.Nodes.{outer}
 use Rattle.counts.specs.Counts.{withBlossoms}
-use Rattle.rules.specs.Act.{skip, say, change, _then_, read, choose}
+use Rattle.rules.specs.Act.{say, change, _then_, read, choose}
 use Rattle.rules.specs.Slots.{withParent, withFirstChild, withSibling, up, next}
-use Rattle.rules.specs.Trees.{root, meeting}
+use Rattle.rules.specs.Trees.{meeting}
 use Rattle.rules.specs.Sound.{nextInRing}
 use Rattle.rules.specs.Blossom.{lacksBlossomSlot, gathered, enclosed, ringed, blossomPlaced, createBlossom, movedUpTo, lastBelow}
 use Rattle.rules.specs.Conflict.{blossomInTree}
@@ -26,9 +25,9 @@ use Rattle.rules.proofs.Chains.{chain-frame}
 use Rattle.rules.proofs.Past.{outer-below}
 use Rattle.rules.proofs.ChildLaws.{above-outer, shrink-is-minus, minus-only}
 use Rattle.rules.proofs.OuterLists.{upward-fits}
-use Rattle.rules.proofs.WaysUp.{FirstShared, sameTree↔, meeting-found}
+use Rattle.rules.proofs.WaysUp.{sameTree↔, meeting-found}
 use Rattle.rules.proofs.Frames.{some-outer}
-use Rattle.rules.proofs.Renewing.{Whole, SameCounts}
+use Rattle.rules.proofs.Renewing.{Whole}
 use Rattle.rules.proofs.Matches.{RightLink}
 use Rattle.rules.proofs.Resolving.{OneTree}
 use Rattle.rules.proofs.TwoPaths.{TwoPaths, two-paths, above-grow}
@@ -36,10 +35,10 @@ use Rattle.rules.proofs.MadeBlossom.{OffPath, InTree, Made}
 use Rattle.rules.proofs.MadeSlots.{below-next, grow-siblingless, twice-above}
 use Rattle.rules.proofs.MadeInside.{made-whole}
 use Rattle.rules.proofs.RingOfPaths as Path
-use Rattle.rules.proofs.RingOfPaths.{onto, onto→, →onto, lastOr, ringOfPaths, Stepped, stepped}
+use Rattle.rules.proofs.RingOfPaths.{onto, onto→, →onto, lastOr, ringOfPaths, stepped}
 use Rattle.rules.proofs.Placing.{Placed, placed}
 use Rattle.rules.proofs.Gathering.{lists-of-256, Site, Gathered, NodeGathered, PathGathered, gathered-none, ring-untouched, node-gathers, path-gathers, last-found}
-use Rattle.rules.proofs.Ringing.{RingedUp, RingedDown, Turned, ringed-up, ringed-down}
+use Rattle.rules.proofs.Ringing.{RingedUp, RingedDown, ringed-up, ringed-down}
 use Rattle.rules.proofs.RoundTheRing.{InRing, round-up, round-down, turned-each}
 
 module _ {x y : ℕ} {l : Link} {t : Table} (o : OneTree t x y l) (slot : ¬ T (lacksBlossomSlot t)) where

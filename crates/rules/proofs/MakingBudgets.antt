@@ -1,8 +1,7 @@
 -- The budgets of making a blossom suffice: with any larger one for all its walks the rule does the same.
 use mathlib.Core.Path.{_≡_, refl, ap, ap₂, sym, _∙_}
-use mathlib.Core.Logic.{_≢_, _⊎_, inl, inr}
-use mathlib.Core.Bool.{true, false, not}
-use mathlib.Core.List.{List, [], _∷_}
+use mathlib.Core.Logic.{_≢_, inl, inr}
+use mathlib.Core.List.{[], _∷_}
 use Prim.Native.Nat.{ℕ, suc, _+_, _≤_}
 use native.Mathlib.Omega.{arith}
 use lib.Dec.{T, eqb}
@@ -15,7 +14,7 @@ use Rattle.rules.specs.Act.{Did, Act, skip, say, change, _then_, read, c
 use Rattle.rules.specs.Slots.{withFirstChild, withSibling, isNone, up, next}
 use Rattle.rules.specs.Walk.{walk, firstShared}
 use Rattle.rules.specs.Trees.{upward, meeting}
-use Rattle.rules.specs.Blossom.{lacksBlossomSlot, relinked, relisted, replaceChild, moved, movedUpTo, lastBelow, gathered, ringUp, ringDown, ringed, newBlossom, blossomPlaced, createBlossom}
+use Rattle.rules.specs.Blossom.{lacksBlossomSlot, relinked, relisted, replaceChild, moved, lastBelow, gathered, ringUp, ringDown, ringed, newBlossom, blossomPlaced, createBlossom}
 use Rattle.rules.specs.Conflict.{blossomInTree}
 use Rattle.rules.proofs.Reflect.{eqb-yes, eqb-no, same-or-not, test-case, test-true, test-false, not↔}
 use Rattle.rules.proofs.Chains.{chain-walk}

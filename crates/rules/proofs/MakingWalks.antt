@@ -3,14 +3,14 @@ use mathlib.Core.Path.{_≡_, refl, ap, sym, _∙_}
 use mathlib.Core.Logic.{_≢_, inl, inr}
 use Prim.Native.Nat.{ℕ, zero, suc, _+_, _≤_}
 use native.Mathlib.Omega.{arith}
-use lib.Dec.{T, eqb}
+use lib.Dec.{T}
 use Rattle.slot.specs.Number.{none}
 use Rattle.slot.specs.Slot.{Link, Slot}
 use Rattle.table.specs.Table.{Table, at, put}
 use Rattle.nodes.specs.Nodes.{outer}
 use Rattle.counts.specs.Counts.{withBlossoms}
-use Rattle.rules.specs.Act.{choose, alter, same}
-use Rattle.rules.specs.Slots.{withSibling, up, next}
+use Rattle.rules.specs.Act.{choose}
+use Rattle.rules.specs.Slots.{up, next}
 use Rattle.rules.specs.Walk.{walk}
 use Rattle.rules.specs.Trees.{upward, meeting}
 use Rattle.rules.specs.Blossom.{lacksBlossomSlot, relinked, moved, movedUpTo, lastBelow, gathered, ringUp, ringDown, newBlossom, blossomPlaced}
@@ -19,7 +19,7 @@ use Rattle.rules.proofs.Chains.{chain-walk}
 use Rattle.rules.proofs.WaysUp.{upward-chain, upward-short}
 use Rattle.rules.proofs.Frames.{some-outer}
 use Rattle.rules.proofs.Resolving.{OneTree}
-use Rattle.rules.proofs.Placing.{counted-at, stored-other}
+use Rattle.rules.proofs.Placing.{stored-other}
 use Rattle.rules.proofs.MadeSlots.{grow-siblingless}
 use Rattle.rules.proofs.Gathering.{movedUpToBy}
 use Rattle.rules.proofs.Making as M

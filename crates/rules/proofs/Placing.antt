@@ -1,17 +1,16 @@
 -- The new blossom in the meeting node's place: what stands in each slot.
 use mathlib.Core.Path.{_≡_, refl, ap, sym, _∙_}
-use mathlib.Core.Logic.{_≢_, _⊎_, inl, inr}
-use Prim.Native.Nat.{ℕ, zero, suc, _+_, _≤_, _<_}
+use mathlib.Core.Logic.{_≢_, inl, inr}
+use Prim.Native.Nat.{ℕ, suc, _+_, _<_}
 use native.Mathlib.Omega.{arith}
-use lib.Dec.{T, eqb}
 use Rattle.slot.specs.Number.{none}
 use Rattle.slot.specs.Slot.{Slot}
 use Rattle.table.specs.Table.{Table, at, put}
 use Rattle.table.proofs.Laws.{Full, at-put-same, at-put-other, put-full}
 use Rattle.counts.specs.Counts.{withBlossoms}
-use Rattle.rules.specs.Act.{choose, alter, same}
+use Rattle.rules.specs.Act.{choose, alter}
 use Rattle.rules.specs.Slots.{withFirstChild, withSibling, up, next}
-use Rattle.rules.specs.Blossom.{relinked, relisted, replaceChild, newBlossom, blossomPlaced}
+use Rattle.rules.specs.Blossom.{relisted, replaceChild, newBlossom, blossomPlaced}
 use Rattle.rules.proofs.Reflect.{eqb-yes, eqb-no, same-or-not}
 
 -- v is t with b counted and stored, the child of m's parent in m's stead

@@ -3,7 +3,7 @@
 use mathlib.Core.Path.{_≡_, refl, ap, sym, _∙_}
 use mathlib.Core.Logic.{_≢_, _↔_, _⊎_, inl, inr}
 use mathlib.Core.List.{List, [], _∷_, _++_}
-use Prim.Native.Nat.{ℕ, suc, _+_, _%_, _≤_}
+use Prim.Native.Nat.{ℕ, _+_, _%_, _≤_}
 use native.Mathlib.Omega.{arith}
 use lib.Dec.{T}
 use lib.ListN.{length, length-append}
@@ -15,7 +15,7 @@ use Rattle.rules.specs.Slots.{up}
 use Rattle.rules.specs.Chain.{_∈_, NoDup, Chain}
 use Rattle.rules.specs.FactsOfNodes.{OuterChild}
 use Rattle.rules.proofs.ReflectSlots.{grow-shrink}
-use Rattle.rules.proofs.Members.{in-append→, in-left, in-right, nodup-append→, in-split, split-length}
+use Rattle.rules.proofs.Members.{in-left, nodup-append→, in-split, split-length}
 use Rattle.rules.proofs.Chains.{chain-nodup, chain-split, chain-unique, chain-start, chain-injective}
 use Rattle.rules.proofs.ChildLaws.{shrink-is-minus, minus-only}
 use Rattle.rules.proofs.OuterLists.{upward-outer}
@@ -106,8 +106,7 @@ module _ (t : Table) (m : ℕ) (ring : List ℕ) (meets : m ∈ ring) (a : ℕ) 
       go [] e = tt
       go (v ∷ vs) e =
           let here : v ∈ zs = rw e (inl refl) in
-          let c : Chain (up t) a (v ∷ (vs ++ (m ∷ side .above))) = rw e at (side .way) in
-          (
+          let c : Chain (up t) a (v ∷ (vs ++ (m ∷ side .above))) = rw e at (side .way) in (
             λ j k. (
               λ r. absurd (never-back (up t) a (zs ++ (m ∷ side .above)) (side .way) j (on-way j (side .own j r (rw (k .1) here))) (k .1 ∙ sym (c .0))),
               elim [ inl q ↦ rw (q ∙ c .0) (side .within v here) | inr q ↦ rw (q ∙ c .0) (side .within v here) ],

@@ -1,23 +1,21 @@
 -- Nodes put into a ring, up one path by their own links and up the other by links turned round: what stands in each slot,
 -- whatever the budget of the walk, if it is long enough.
-use mathlib.Core.Path.{_≡_, refl, ap, sym, _∙_}
+use mathlib.Core.Path.{_≡_, refl, ap, _∙_}
 use mathlib.Core.Logic.{_≢_, inl, inr}
 use mathlib.Core.List.{List, [], _∷_, _++_}
 use Prim.Native.Nat.{ℕ, zero, suc, _≤_, _<_}
 use native.Mathlib.Omega.{arith}
-use lib.Dec.{eqb}
 use lib.ListN.{length}
-use Rattle.slot.specs.Number.{none}
 use Rattle.slot.specs.Slot.{Link, Slot, mirror}
-use Rattle.table.specs.Table.{Table, at, put}
+use Rattle.table.specs.Table.{Table, at}
 use Rattle.table.proofs.Laws.{Full, at-put-same, at-put-other}
-use Rattle.rules.specs.Act.{choose, alter, same}
+use Rattle.rules.specs.Act.{choose, alter}
 use Rattle.rules.specs.Slots.{up}
 use Rattle.rules.specs.Blossom.{enclosed, ringUp, ringDown}
 use Rattle.rules.specs.Chain.{_∈_, NoDup, Chain}
 use Rattle.rules.proofs.Reflect.{eqb-yes, eqb-no}
 use Rattle.rules.proofs.Renewing.{SameCounts, alter-full, put-counts}
-use Rattle.rules.proofs.Adopting.{counts-then}
+use Rattle.rules.proofs.Cleared.{counts-then}
 
 -- ---- one slot
 

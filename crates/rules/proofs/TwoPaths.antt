@@ -1,9 +1,9 @@
 -- The two upward paths of a blossom that is to be made, as facts: each is a part of its own, the meeting node, and what both
 -- share above it. The meeting node is a + node, and so each own part has an even number of nodes.
-use mathlib.Core.Path.{_≡_, refl, ap, sym, subst, _∙_}
+use mathlib.Core.Path.{_≡_, refl, sym, subst, _∙_}
 use mathlib.Core.Logic.{_≢_, _⊎_, inl, inr}
 use mathlib.Core.List.{List, [], _∷_, _++_}
-use Prim.Native.Nat.{ℕ, suc, _+_, _≤_}
+use Prim.Native.Nat.{ℕ, suc, _+_}
 use native.Mathlib.Omega.{arith}
 use lib.Dec.{T}
 use lib.ListN.{length}
@@ -13,15 +13,15 @@ use Rattle.table.specs.Table.{Table, at}
 use Rattle.table.proofs.Laws.{Full}
 use Rattle.nodes.specs.Nodes.{outer}
 use Rattle.rules.specs.Slots.{up}
-use Rattle.rules.specs.Trees.{upward, root, meeting}
-use Rattle.rules.specs.Chain.{_∈_, NoDup, Chain}
+use Rattle.rules.specs.Trees.{upward}
+use Rattle.rules.specs.Chain.{_∈_, Chain}
 use Rattle.rules.specs.FactsOfNodes.{FullLink, Kind, free-node, virtual-node, paired-node, root-node, minus-node, plus-node, OuterChild}
 use Rattle.rules.specs.Facts.{Core}
-use Rattle.rules.proofs.ReflectSlots.{grow-shrink, stay-shrink, stay-grow}
-use Rattle.rules.proofs.Members.{in-append→, in-left, in-right, nodup-append→, Split, in-split}
-use Rattle.rules.proofs.Chains.{chain-nodup, chain-split, chain-unique}
+use Rattle.rules.proofs.ReflectSlots.{grow-shrink}
+use Rattle.rules.proofs.Members.{in-left, in-right, Split, in-split}
+use Rattle.rules.proofs.Chains.{chain-split, chain-unique}
 use Rattle.rules.proofs.ChildLaws.{no-child, minus-only}
-use Rattle.rules.proofs.WaysUp.{FirstShared, upward-chain, upward-all-outer, upward-from, meeting-found}
+use Rattle.rules.proofs.WaysUp.{FirstShared, upward-chain, upward-all-outer}
 
 -- ---- a chain with a mark on it
 
