@@ -12,8 +12,8 @@ use Rattle.rules.specs.Sound.{sound}
 use Rattle.rules.specs.Calls.{actOf, verdict}
 use Rattle.rules.specs.Concerns.{concerns, isMaking}
 use Rattle.rules.proofs.Renewing.{Whole}
-use Rattle.rules.proofs.Keeping.{Keeps}
-use Rattle.rules.proofs.Orders.{isOfTheThree, Asked, ApartIn, Ask, AllAsked, PairwiseApart, doneInOrder, AcceptedInOrder, givenInOrder, givenFirst, Reordered}
+use Rattle.rules.proofs.Keeping.{act-keeps}
+use Rattle.rules.specs.Orders.{isOfTheThree, Asked, ApartIn, Ask, AllAsked, PairwiseApart, doneInOrder, AcceptedInOrder, givenInOrder, givenFirst, Reordered}
 use Rattle.rules.proofs.Areas.{apart-back}
 use Rattle.rules.proofs.TwoRequests.{sound-whole, accepted-after, same-table, same-commands}
 use Rattle.rules.proofs.StillApart.{still-apart}
@@ -55,46 +55,44 @@ module _ (t : Table) (full : Full t) (s : T (sound t))
   q-commands = same-commands t w q r n m q-asked r-asked (apart-back t r q (apart, one-making))
 
   -- both are accepted in either order, since the first keeps the table sound
-  module _ (keeps : Keeps) where
-    pub r-still-accepted : verdict r t₂ m ≡ W.Accepted
-    r-still-accepted = accepted-after t w r q m n r-asked q-asked (apart, one-making) (keeps q n t w q-accepted)
+  pub r-still-accepted : verdict r t₂ m ≡ W.Accepted
+  r-still-accepted = accepted-after t w r q m n r-asked q-asked (apart, one-making) (act-keeps q n t w q-accepted)
 
-    pub q-still-accepted : verdict q t₁ n ≡ W.Accepted
-    q-still-accepted = accepted-after t w q r n m q-asked r-asked (apart-back t r q (apart, one-making)) (keeps r m t w r-accepted)
+  pub q-still-accepted : verdict q t₁ n ≡ W.Accepted
+  q-still-accepted = accepted-after t w q r n m q-asked r-asked (apart-back t r q (apart, one-making)) (act-keeps r m t w r-accepted)
 
--- ---- any number of requests, where an accepted request keeps a sound table sound
+-- ---- any number of requests
 
-module _ (keeps : Keeps) where
-  -- after r, two others that were apart from it and from one another are still apart
-  pub apart-after :
-      (t : Table)
-      → Full t
-      → T (sound t)
-      → (r q p : Request) (k m n : ℕ)
-      → Asked t r k
-      → Asked t q m
-      → Asked t p n
-      → ApartIn t r q
-      → ApartIn t r p
-      → ApartIn t q p
-      → ApartIn (actOf r t .table) q p
-  apart-after t full s r q p k m n a b c x y z =
-      still-apart t (sound-whole t full s) r q p k m n a b c (apart-back t r q x) (apart-back t r p y) z (keeps r k t (sound-whole t full s) (a .accepted))
+-- after r, two others that were apart from it and from one another are still apart
+pub apart-after :
+    (t : Table)
+    → Full t
+    → T (sound t)
+    → (r q p : Request) (k m n : ℕ)
+    → Asked t r k
+    → Asked t q m
+    → Asked t p n
+    → ApartIn t r q
+    → ApartIn t r p
+    → ApartIn t q p
+    → ApartIn (actOf r t .table) q p
+apart-after t full s r q p k m n a b c x y z =
+    still-apart t (sound-whole t full s) r q p k m n a b c (apart-back t r q x) (apart-back t r p y) z (act-keeps r k t (sound-whole t full s) (a .accepted))
 
-  -- a list of requests, each accepted on t, pairwise apart; and the list in another order
-  module _ (t : Table) (full : Full t) (s : T (sound t)) (xs ys : List Ask) (reordered : Reordered xs ys) (asked : AllAsked t xs) (apart : PairwiseApart t xs) where
-    -- each is accepted when its turn comes
-    pub any-order-accepted : AcceptedInOrder ys t
-    any-order-accepted = reordered-accepted keeps xs ys reordered t (sound-whole t full s) asked apart
+-- a list of requests, each accepted on t, pairwise apart; and the list in another order
+module _ (t : Table) (full : Full t) (s : T (sound t)) (xs ys : List Ask) (reordered : Reordered xs ys) (asked : AllAsked t xs) (apart : PairwiseApart t xs) where
+  -- each is accepted when its turn comes
+  pub any-order-accepted : AcceptedInOrder ys t
+  any-order-accepted = reordered-accepted xs ys reordered t (sound-whole t full s) asked apart
 
-    -- the table is the same
-    pub any-order-table : doneInOrder xs t ≡ doneInOrder ys t
-    any-order-table = reordered-table keeps xs ys reordered t (sound-whole t full s) asked apart
+  -- the table is the same
+  pub any-order-table : doneInOrder xs t ≡ doneInOrder ys t
+  any-order-table = reordered-table xs ys reordered t (sound-whole t full s) asked apart
 
-    -- whatever its place, each gives the commands that it gives where it is the first
-    pub any-order-commands : givenInOrder ys t ≡ givenFirst ys t
-    any-order-commands = reordered-given keeps xs ys reordered t (sound-whole t full s) asked apart
+  -- whatever its place, each gives the commands that it gives where it is the first
+  pub any-order-commands : givenInOrder ys t ≡ givenFirst ys t
+  any-order-commands = reordered-given xs ys reordered t (sound-whole t full s) asked apart
 
-    -- so what was given, request by request, is the same in another order
-    pub any-order-given : Reordered (givenInOrder xs t) (givenInOrder ys t)
-    any-order-given = given-as-reordered keeps xs ys reordered t (sound-whole t full s) asked apart
+  -- so what was given, request by request, is the same in another order
+  pub any-order-given : Reordered (givenInOrder xs t) (givenInOrder ys t)
+  any-order-given = given-as-reordered xs ys reordered t (sound-whole t full s) asked apart

@@ -37,7 +37,7 @@ use Rattle.rules.proofs.Loading.{unloaded→}
 use Rattle.rules.proofs.Within.{In, Closed}
 use Rattle.rules.proofs.ConcernedNodes.{seen-loaded, concerned→, concerned-itself, concerned-held, concerned-outer, Held}
 use Rattle.rules.proofs.NamedNodes.{named-outer}
-use Rattle.rules.proofs.Orders.{Asked, ApartIn}
+use Rattle.rules.specs.Orders.{Asked, ApartIn}
 
 -- past the last slot, as at none, there is nothing to read or write
 pub data InArea (r : Request) (t : Table) (j : ℕ) : Type 0 where

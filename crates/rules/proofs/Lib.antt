@@ -74,11 +74,13 @@ pub mod PlaceInList
 pub mod Expanding
 pub mod ExpansionCommands
 pub mod ExpansionBudgets
-pub mod AnyConflict
 pub mod Resetting
 pub mod TreesInPairs
-pub mod Answering
-pub mod KeptWithoutBlossoms
+pub mod KeptByRules
+pub mod Wholes
+pub mod Keeping
+pub mod Serving
+pub mod Kept
 pub mod NamedExamples
 pub mod CountLaws
 pub mod RestOfRing
@@ -94,8 +96,6 @@ pub mod ListingRoom
 pub mod MatchedPlaces
 pub mod ListingEnough
 pub mod EachEventOnce
-pub mod Keeping
-pub mod Orders
 pub mod Within
 pub mod MatchingWithin
 pub mod ReadingWithin

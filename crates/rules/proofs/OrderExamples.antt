@@ -11,7 +11,7 @@ use Rattle.rules.specs.Act.{create, expand}
 use Rattle.rules.specs.Sound.{sound}
 use Rattle.rules.proofs.Script.{meet, join, border, open-up, after, saysAfter, numberAfter, grows, shrinks, all-rules}
 use Rattle.rules.proofs.Renewing.{Whole}
-use Rattle.rules.proofs.Orders.{Ask, AllAsked, PairwiseApart}
+use Rattle.rules.specs.Orders.{Ask, AllAsked, PairwiseApart}
 use Rattle.rules.proofs.Areas.{apart-by-test}
 use Rattle.rules.proofs.TwoRequests.{sound-whole}
 

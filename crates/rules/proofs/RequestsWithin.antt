@@ -34,7 +34,7 @@ use Rattle.rules.proofs.ReadingWithin.{seen-alike, defect-inside-alike,
 use Rattle.rules.proofs.ConflictWithin.{conflict-acted, virtual-acts}
 use Rattle.rules.proofs.ExpansionWithin.{expansion-acted}
 use Rattle.rules.proofs.NamedNodes.{conflict-named, virtual-named, expansion-named}
-use Rattle.rules.proofs.Orders.{isOfTheThree}
+use Rattle.rules.specs.Orders.{isOfTheThree}
 use Rattle.rules.proofs.Areas.{InArea, fresh, named-concerned, named-in, inside-in}
 
 -- ---- what is done

@@ -28,7 +28,7 @@ use Rattle.rules.proofs.Trimming.{root-up}
 use Rattle.rules.proofs.Within.{Closed, Alike}
 use Rattle.rules.proofs.ReadingWithin.{seen-alike, root-alike, root-in, same-tree-alike}
 use Rattle.rules.proofs.ConcernedNodes.{seen-loaded, seen-in-tree}
-use Rattle.rules.proofs.Orders.{Asked, ApartIn}
+use Rattle.rules.specs.Orders.{Asked, ApartIn}
 use Rattle.rules.proofs.Areas.{InArea, concerned-by, by-concerned, named-in}
 use Rattle.rules.proofs.RequestsWithin.{makes-alike}
 use Rattle.rules.proofs.TwoRequests.{alike-after}

@@ -15,7 +15,7 @@ use Rattle.rules.specs.Concerns.{isMaking}
 use Rattle.rules.proofs.SoundFacts.{sound→facts, facts→sound}
 use Rattle.rules.proofs.Renewing.{Whole}
 use Rattle.rules.proofs.Within.{Alike, Moved, Acted}
-use Rattle.rules.proofs.Orders.{Asked, ApartIn}
+use Rattle.rules.specs.Orders.{Asked, ApartIn}
 use Rattle.rules.proofs.Areas.{InArea, in-area-or-not, area-closed, apart-back, areas-apart}
 use Rattle.rules.proofs.RequestsWithin.{request-acted, request-verdict}
 

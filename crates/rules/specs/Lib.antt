@@ -17,3 +17,4 @@ pub mod Refusals
 pub mod Calls
 pub mod Concerns
 pub mod Run
+pub mod Orders

@@ -1,4 +1,4 @@
--- A sound table is sound after each rule and after each accepted request that makes and takes apart no blossom.
+-- A sound table is sound after each rule, each stated with what the rule asks for; and what augmenting leaves.
 use mathlib.Core.Path.{_≡_}
 use mathlib.Core.Logic.{_≢_}
 use Prim.Native.Nat.{ℕ, _≤_}
@@ -8,47 +8,31 @@ use Rattle.slot.specs.Number.{none, noVertex}
 use Rattle.slot.specs.Slot.{Link}
 use Rattle.table.specs.Table.{Table, at}
 use Rattle.table.proofs.Laws.{Full}
-use Rattle.counts.specs.Making.{emptied}
-use Rattle.record.specs.declared.request.Conflict.{Conflict}
-use Rattle.record.specs.declared.request.VirtualConflict.{VirtualConflict}
-use Rattle.record.specs.declared.request.Request.{Request}
-use Rattle.record.specs.declared.request.Request.the-variants as Q
-use Rattle.rules.specs.Act.{alter}
-use Rattle.rules.specs.Slots.{withFirstChild}
 use Rattle.nodes.specs.Nodes.{outer}
 use Rattle.rules.specs.Trees.{isUnloaded, loaded, root}
-use Rattle.rules.specs.Matching.{temporaryMatch, temporaryMatchVirtual, matchSiblings, augmentWithin, augmentWholeTree}
-use Rattle.rules.specs.Conflict.{growTree, hangPair, conflict, virtualConflict}
-use Rattle.refusal.specs.declared.Verdict.the-variants as W
-use Rattle.rules.specs.Refusals.{makesBlossom}
-use Rattle.rules.specs.Calls.{verdict, answered}
-use Rattle.rules.specs.Sound.{sound}
+use Rattle.rules.specs.Matching.{temporaryMatch, temporaryMatchVirtual, augmentWholeTree}
+use Rattle.rules.specs.Blossom.{lacksBlossomSlot}
+use Rattle.rules.specs.Expansion.{expansion}
+use Rattle.rules.specs.Conflict.{growTree, hangPair, blossomInTree}
 use Rattle.rules.specs.FactsOfNodes.{Free, Paired}
 use Rattle.rules.specs.FactsOfBlossoms.{DefectInside}
 use Rattle.rules.specs.Facts.{Sound}
-use Rattle.rules.proofs.SoundFacts.{sound→facts, facts→sound}
 use Rattle.rules.proofs.Singles.{Single, Alone}
 use Rattle.rules.proofs.Renewing.{Whole}
 use Rattle.rules.proofs.Matches.{RightLink, match-whole, virtual-whole}
 use Rattle.rules.proofs.Loading.{load-does}
 use Rattle.rules.proofs.Hanging.{grow-whole, hang-whole}
-use Rattle.rules.proofs.TreesInPairs.{tree-paired, node-single, others-same, augment-budget, siblings-budget}
+use Rattle.rules.proofs.TreesInPairs.{tree-paired, node-single, others-same}
 use Rattle.rules.proofs.Rows.{alone-tree, tree-alone, tree-virtual, two-trees}
-use Rattle.rules.proofs.Accepting.{conflict-keeps, virtual-keeps}
-use Rattle.rules.proofs.Resetting.{reset-keeps}
-use Rattle.rules.proofs.Answering.{changesBlossoms, answered-keeps}
+use Rattle.rules.proofs.Resolving.{OneTree}
+use Rattle.rules.proofs.Making.{blossom-keeps}
+use Rattle.rules.proofs.Expanding.{blossom-expanded}
 
 whole : (t : Table) → Full t → Sound t → Whole t
 whole t full s = record { full = full; core = s .core; rest = s .rest }
 
 facts : (t : Table) → Whole t → Sound t
 facts t w = record { core = w .core; rest = w .rest }
-
-to-whole : (t : Table) → Full t → T (sound t) → Whole t
-to-whole t full s = whole t full (sound→facts t full s)
-
-from-whole : (t : Table) → Whole t → T (sound t)
-from-whole t w = facts→sound t (w .full) (facts t w)
 
 -- ---- the rules, on facts
 
@@ -122,6 +106,14 @@ module _ (t : Table) (full : Full t) (s : Sound t) where
       → Sound (temporaryMatchVirtual x touch vertex virtual (augmentWholeTree x t .table) .table)
   tree-virtual-keeps x touch vertex virtual g i d e f = facts (temporaryMatchVirtual x touch vertex virtual (augmentWholeTree x t .table) .table) (tree-virtual t x touch vertex virtual (whole t full s) g i d e f)
 
+  -- "one tree | make a blossom", where a slot is left
+  pub making-keeps : (x y : ℕ) (l : Link) → OneTree t x y l → ¬ T (lacksBlossomSlot t) → Sound (blossomInTree x y l t .table)
+  making-keeps x y l o d = facts (blossomInTree x y l t .table) (blossom-keeps x y l t o d)
+
+  -- a − blossom taken apart
+  pub taking-apart-keeps : (b : ℕ) → t .begin ≤ b → at t b .state ≡ S.Shrink → Sound (expansion b t .table)
+  taking-apart-keeps b l e = facts (expansion b t .table) (blossom-expanded t (whole t full s) b l e)
+
 -- ---- augmenting at a Grow node: "each listed − node matches its subtree", up to the root
 
 module _ (t : Table) (full : Full t) (s : Sound t) (x : ℕ) (grows : at t x .state ≡ S.Grow) where
@@ -136,33 +128,3 @@ module _ (t : Table) (full : Full t) (s : Sound t) (x : ℕ) (grows : at t x .st
   -- no node of another tree, no other pair and no other single node is touched
   pub augmented-others : (j : ℕ) → T (outer t j) → root t j ≢ root t x → at (augmentWholeTree x t .table) j ≡ at t j
   augmented-others = others-same t x (whole t full s) grows
-
-  -- the budgets suffice: larger ones do the same, commands included
-  pub augment-budget-suffices : (k : ℕ) → 256 ≤ k → augmentWithin k x t ≡ augmentWithin 256 x t
-  augment-budget-suffices = augment-budget t x (whole t full s) grows
-
-  pub siblings-budget-suffices : (k : ℕ) → 256 ≤ k → matchSiblings k (at t x .firstChild) (alter x (withFirstChild none) t) ≡ matchSiblings 256 (at t x .firstChild) (alter x (withFirstChild none) t)
-  siblings-budget-suffices = siblings-budget t x (whole t full s) grows
-
--- ---- the requests
-
-module _ (t : Table) (full : Full t) (s : T (sound t)) where
-  pub conflict-keeps-sound :
-      (room : ℕ) (c : Conflict)
-      → verdict (Q.Conflict c) t room ≡ W.Accepted
-      → ¬ T (makesBlossom t (c .«node_1» .0) (c .«node_2» .0))
-      → T (sound (conflict c t .table))
-  conflict-keeps-sound room c e d = from-whole (conflict c t .table) (conflict-keeps t room c (to-whole t full s) e d)
-
-  pub virtual-conflict-keeps-sound : (room : ℕ) (c : VirtualConflict) → verdict (Q.VirtualConflict c) t room ≡ W.Accepted → T (sound (virtualConflict c t .table))
-  virtual-conflict-keeps-sound room c e = from-whole (virtualConflict c t .table) (virtual-keeps t room c (to-whole t full s) e)
-
-  pub reset-keeps-sound : T (sound (emptied t))
-  reset-keeps-sound = from-whole (emptied t) (reset-keeps t (to-whole t full s))
-
-  -- refused or accepted, and still 256 slots
-  pub answered-keeps-sound : (r : Request) (room : ℕ) → ¬ T (changesBlossoms r t) → T (sound (answered r room t .table))
-  answered-keeps-sound r room d = from-whole (answered r room t .table) (answered-keeps t room (to-whole t full s) r d)
-
-  pub answered-keeps-full : (r : Request) (room : ℕ) → ¬ T (changesBlossoms r t) → Full (answered r room t .table)
-  answered-keeps-full r room d = answered-keeps t room (to-whole t full s) r d .full
