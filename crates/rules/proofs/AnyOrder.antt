@@ -12,10 +12,11 @@ use Rattle.rules.specs.Sound.{sound}
 use Rattle.rules.specs.Calls.{actOf, verdict}
 use Rattle.rules.specs.Concerns.{concerns, isMaking}
 use Rattle.rules.proofs.Renewing.{Whole}
+use Rattle.rules.proofs.Wholes.{to-whole}
 use Rattle.rules.proofs.Keeping.{act-keeps}
 use Rattle.rules.specs.Orders.{isOfTheThree, Asked, ApartIn, Ask, AllAsked, PairwiseApart, doneInOrder, AcceptedInOrder, givenInOrder, givenFirst, Reordered}
 use Rattle.rules.proofs.Areas.{apart-back}
-use Rattle.rules.proofs.TwoRequests.{sound-whole, accepted-after, same-table, same-commands}
+use Rattle.rules.proofs.TwoRequests.{accepted-after, same-table, same-commands}
 use Rattle.rules.proofs.StillApart.{still-apart}
 use Rattle.rules.proofs.Reordering.{reordered-table, reordered-given, given-as-reordered, reordered-accepted}
 
@@ -28,7 +29,7 @@ module _ (t : Table) (full : Full t) (s : T (sound t))
     (apart : (j : ℕ) → ¬ (T (concerns r t j) × T (concerns q t j)))
     (one-making : ¬ (T (isMaking r t) × T (isMaking q t))) where
   w : Whole t
-  w = sound-whole t full s
+  w = to-whole t full s
 
   r-asked : Asked t r m
   r-asked = record { three = r-three; accepted = r-accepted }
@@ -77,22 +78,22 @@ pub apart-after :
     → ApartIn t q p
     → ApartIn (actOf r t .table) q p
 apart-after t full s r q p k m n a b c x y z =
-    still-apart t (sound-whole t full s) r q p k m n a b c (apart-back t r q x) (apart-back t r p y) z (act-keeps r k t (sound-whole t full s) (a .accepted))
+    still-apart t (to-whole t full s) r q p k m n a b c (apart-back t r q x) (apart-back t r p y) z (act-keeps r k t (to-whole t full s) (a .accepted))
 
 -- a list of requests, each accepted on t, pairwise apart; and the list in another order
 module _ (t : Table) (full : Full t) (s : T (sound t)) (xs ys : List Ask) (reordered : Reordered xs ys) (asked : AllAsked t xs) (apart : PairwiseApart t xs) where
   -- each is accepted when its turn comes
   pub any-order-accepted : AcceptedInOrder ys t
-  any-order-accepted = reordered-accepted xs ys reordered t (sound-whole t full s) asked apart
+  any-order-accepted = reordered-accepted xs ys reordered t (to-whole t full s) asked apart
 
   -- the table is the same
   pub any-order-table : doneInOrder xs t ≡ doneInOrder ys t
-  any-order-table = reordered-table xs ys reordered t (sound-whole t full s) asked apart
+  any-order-table = reordered-table xs ys reordered t (to-whole t full s) asked apart
 
   -- whatever its place, each gives the commands that it gives where it is the first
   pub any-order-commands : givenInOrder ys t ≡ givenFirst ys t
-  any-order-commands = reordered-given xs ys reordered t (sound-whole t full s) asked apart
+  any-order-commands = reordered-given xs ys reordered t (to-whole t full s) asked apart
 
   -- so what was given, request by request, is the same in another order
   pub any-order-given : Reordered (givenInOrder xs t) (givenInOrder ys t)
-  any-order-given = given-as-reordered xs ys reordered t (sound-whole t full s) asked apart
+  any-order-given = given-as-reordered xs ys reordered t (to-whole t full s) asked apart

@@ -80,6 +80,8 @@ pub mod KeptByRules
 pub mod Wholes
 pub mod Keeping
 pub mod Serving
+pub mod ClimbBudgets
+pub mod BudgetsSuffice
 pub mod Kept
 pub mod NamedExamples
 pub mod CountLaws

@@ -13,7 +13,7 @@ use Rattle.rules.proofs.Script.{meet, join, border, open-up, after, say
 use Rattle.rules.proofs.Renewing.{Whole}
 use Rattle.rules.specs.Orders.{Ask, AllAsked, PairwiseApart}
 use Rattle.rules.proofs.Areas.{apart-by-test}
-use Rattle.rules.proofs.TwoRequests.{sound-whole}
+use Rattle.rules.proofs.Wholes.{to-whole}
 
 -- trees 2, 0, 1 and 5, 3, 4; the blossom 128 of 8, 6, 7 as a − node below 10, with 9 below it
 ready : Table
@@ -30,7 +30,7 @@ unfolding all-rules ready
 ready-sound = tt
 
 ready-whole : Whole ready
-ready-whole = sound-whole ready ready-full ready-sound
+ready-whole = to-whole ready ready-full ready-sound
 
 ask : Request → Ask
 ask r = record { request = r; room = 4096 }

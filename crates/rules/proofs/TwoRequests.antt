@@ -12,18 +12,12 @@ use Rattle.record.specs.declared.request.Request.{Request}
 use Rattle.rules.specs.Sound.{sound}
 use Rattle.rules.specs.Calls.{actOf, verdict}
 use Rattle.rules.specs.Concerns.{isMaking}
-use Rattle.rules.proofs.SoundFacts.{sound→facts, facts→sound}
+use Rattle.rules.proofs.Wholes.{from-whole}
 use Rattle.rules.proofs.Renewing.{Whole}
 use Rattle.rules.proofs.Within.{Alike, Moved, Acted}
 use Rattle.rules.specs.Orders.{Asked, ApartIn}
 use Rattle.rules.proofs.Areas.{InArea, in-area-or-not, area-closed, apart-back, areas-apart}
 use Rattle.rules.proofs.RequestsWithin.{request-acted, request-verdict}
-
-pub sound-whole : (t : Table) → Full t → T (sound t) → Whole t
-sound-whole t full s = let f = sound→facts t full s in record { full = full; core = f .core; rest = f .rest }
-
-pub whole-sound : (t : Table) → Whole t → T (sound t)
-whole-sound t w = facts→sound t (w .full) (record { core = w .core; rest = w .rest })
 
 -- ---- one request beside another that was done first
 
@@ -63,7 +57,7 @@ module _ (t : Table) (w : Whole t) where
     done-after = request-acted t m w t₂ r (a .three) (a .accepted) alike-after slot-after
 
     pub accepted-after : Whole t₂ → verdict r t₂ m ≡ W.Accepted
-    accepted-after v = sym (request-verdict t m w t₂ r (a .three) (a .accepted) (whole-sound t w) (whole-sound t₂ v) alike-after slot-after) ∙ a .accepted
+    accepted-after v = sym (request-verdict t m w t₂ r (a .three) (a .accepted) (from-whole t w) (from-whole t₂ v) alike-after slot-after) ∙ a .accepted
 
 -- ---- either order
 
