@@ -1,4 +1,5 @@
-// Each request on any table, with its refusals in 01's order, from a position of the lent bytes on.
+// Each request on a table that is known to be sound: the refusals after the first, in 01's order, and then the rule; from a
+// position of the lent bytes on. What is promised holds on any table, but it is 01's answer on a sound one only.
 use record::Conflict;
 use record::Expansion;
 use record::VirtualConflict;
@@ -10,7 +11,7 @@ ghost use mathlib.Core.Path.{_≡_};
 ghost use Prim.Native.Nat.{_-_};
 ghost use lib.ListN.{length};
 ghost use Rattle.record.specs.declared.request.Request.the-variants as Q;
-ghost use Rattle.serving.specs.Answered.{Answered};
+ghost use Rattle.handling.specs.Handled.{Handled};
 
 // The bytes from a position on.
 pub fn room(out: &[u8], pos: usize) -> usize
@@ -23,11 +24,8 @@ pub fn room(out: &[u8], pos: usize) -> usize
 }
 
 pub fn conflict(t: &mut Table, out: &mut [u8], pos: usize, c: Conflict) -> Answer
-    ensures { λ r. ⌜ Answered (Q.Conflict c) pos (now (t .entry)) (now (out .entry)) r (now (t .exit)) (now (out .exit)) ⌝ }
+    ensures { λ r. ⌜ Handled (Q.Conflict c) pos (now (t .entry)) (now (out .entry)) r (now (t .exit)) (now (out .exit)) ⌝ }
 {
-    if !sound::is_sound(t) {
-        return Answer::Refused(Refusal::NotSound);
-    }
     if room(out, pos) < 4096 {
         return Answer::Refused(Refusal::NoCommandRoom);
     }
@@ -38,11 +36,8 @@ pub fn conflict(t: &mut Table, out: &mut [u8], pos: usize, c: Conflict) -> Answe
 }
 
 pub fn virtual_conflict(t: &mut Table, out: &mut [u8], pos: usize, c: VirtualConflict) -> Answer
-    ensures { λ r. ⌜ Answered (Q.VirtualConflict c) pos (now (t .entry)) (now (out .entry)) r (now (t .exit)) (now (out .exit)) ⌝ }
+    ensures { λ r. ⌜ Handled (Q.VirtualConflict c) pos (now (t .entry)) (now (out .entry)) r (now (t .exit)) (now (out .exit)) ⌝ }
 {
-    if !sound::is_sound(t) {
-        return Answer::Refused(Refusal::NotSound);
-    }
     if room(out, pos) < 4096 {
         return Answer::Refused(Refusal::NoCommandRoom);
     }
@@ -53,11 +48,8 @@ pub fn virtual_conflict(t: &mut Table, out: &mut [u8], pos: usize, c: VirtualCon
 }
 
 pub fn expand(t: &mut Table, out: &mut [u8], pos: usize, e: Expansion) -> Answer
-    ensures { λ r. ⌜ Answered (Q.Expansion e) pos (now (t .entry)) (now (out .entry)) r (now (t .exit)) (now (out .exit)) ⌝ }
+    ensures { λ r. ⌜ Handled (Q.Expansion e) pos (now (t .entry)) (now (out .entry)) r (now (t .exit)) (now (out .exit)) ⌝ }
 {
-    if !sound::is_sound(t) {
-        return Answer::Refused(Refusal::NotSound);
-    }
     if room(out, pos) < 4096 {
         return Answer::Refused(Refusal::NoCommandRoom);
     }
@@ -70,21 +62,15 @@ pub fn expand(t: &mut Table, out: &mut [u8], pos: usize, e: Expansion) -> Answer
 
 // Reset writes nothing; it takes the bytes so that its promise is of the same form.
 pub fn reset(t: &mut Table, out: &mut [u8], pos: usize) -> Answer
-    ensures { λ r. ⌜ Answered Q.Reset pos (now (t .entry)) (now (out .entry)) r (now (t .exit)) (now (out .exit)) ⌝ }
+    ensures { λ r. ⌜ Handled Q.Reset pos (now (t .entry)) (now (out .entry)) r (now (t .exit)) (now (out .exit)) ⌝ }
 {
-    if !sound::is_sound(t) {
-        return Answer::Refused(Refusal::NotSound);
-    }
     counts::empty_table(t);
     Answer::Done(pos)
 }
 
 pub fn list(t: &Table, out: &mut [u8], pos: usize) -> Answer
-    ensures { λ r. ⌜ Answered Q.List pos (now (t .entry)) (now (out .entry)) r (now (t .entry)) (now (out .exit)) ⌝ }
+    ensures { λ r. ⌜ Handled Q.List pos (now (t .entry)) (now (out .entry)) r (now (t .entry)) (now (out .exit)) ⌝ }
 {
-    if !sound::is_sound(t) {
-        return Answer::Refused(Refusal::NotSound);
-    }
     let needed = 16 * listing::present_defects(t);
     if room(out, pos) < needed {
         return Answer::Refused(Refusal::NoListingRoom);

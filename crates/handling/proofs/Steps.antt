@@ -1,10 +1,9 @@
 -- The outcome of each call, by the way that the code took through its refusals.
 use mathlib.Core.Path.{_≡_, refl, sym, ap, _∙_}
-use mathlib.Core.Bool.{Bool, true, false, not}
+use mathlib.Core.Bool.{Bool, true, false}
 use mathlib.Core.List.{List}
 use Prim.Native.Nat.{ℕ, zero, suc, _+_, _-_, _*_, _≤_, _<_}
 use native.Mathlib.Omega.{arith}
-use lib.ListN.{length}
 use borrow.Author.Tests.{lt-ltb, le-ltb}
 use Rattle.lists.specs.Choice.{pick}
 use Rattle.table.specs.Table.{Table}
@@ -15,7 +14,7 @@ use Rattle.refusal.specs.declared.Answer.the-variants as A
 use Rattle.refusal.specs.declared.Verdict.{Verdict}
 use Rattle.refusal.specs.declared.Verdict.the-variants as W
 use Rattle.refusal.specs.declared.Refusal.{Refusal}
-use Rattle.refusal.specs.declared.Refusal.the-variants.{NotSound, NoCommandRoom, NoListingRoom}
+use Rattle.refusal.specs.declared.Refusal.the-variants.{NoCommandRoom, NoListingRoom}
 use Rattle.record.specs.declared.request.Request.{Request}
 use Rattle.record.specs.declared.request.Request.the-variants as Q
 use Rattle.record.specs.declared.request.Conflict.{Conflict}
@@ -23,13 +22,12 @@ use Rattle.record.specs.declared.request.VirtualConflict.{VirtualConflict}
 use Rattle.record.specs.declared.request.Expansion.{Expansion}
 use Rattle.record.specs.Writing.{Out, outOf, writeAll}
 use Rattle.rules.specs.Act.{Act, World, worldOf, run, change}
-use Rattle.rules.specs.Sound.{sound}
-use Rattle.rules.specs.Listing.{listing, slotsListed}
-use Rattle.rules.specs.Refusals.{firstOf, Check, presentDefects, defectAt, defectsBelow, lacksCommandRoom, conflictNodeChecks, virtualNodeChecks, expansionNodeChecks}
-use Rattle.rules.specs.Calls.{actOf, list, verdict}
+use Rattle.rules.specs.Listing.{listing}
+use Rattle.rules.specs.Refusals.{firstOf, presentDefects, defectAt, defectsBelow, lacksCommandRoom, conflictNodeChecks, virtualNodeChecks, expansionNodeChecks}
+use Rattle.rules.specs.Calls.{list}
 use Rattle.rules.proofs.Runs.{run-change}
 use Rattle.listing.proofs.Defects.{at-most-one}
-use Rattle.serving.specs.Answered.{Outcome, Answered}
+use Rattle.handling.specs.Handled.{Outcome, laterVerdict}
 
 -- ---- the outcome by the verdict
 
@@ -46,62 +44,49 @@ module _ (act : Act) (pos : ℕ) (words bytes : List ℕ) where
 
 -- ---- the verdict by the tests, for the three requests that ask for command room
 
--- 1, then 9, then the checks of the nodes
-unfoldable pub judged : Bool → ℕ → Verdict → Verdict
-judged s room v =
-    pick (not s) (W.Refused NotSound) (pick (lacksCommandRoom room) (W.Refused NoCommandRoom) v)
+-- 9, then the checks of the nodes
+unfoldable pub judged : ℕ → Verdict → Verdict
+judged room v = pick (lacksCommandRoom room) (W.Refused NoCommandRoom) v
 
 module _ (t : Table) (room : ℕ) where
-  pub conflict-judged : (c : Conflict) → verdict (Q.Conflict c) t room ≡ judged (sound t) room (firstOf (conflictNodeChecks t c))
-  unfolding verdict judged
+  pub conflict-judged : (c : Conflict) → laterVerdict (Q.Conflict c) t room ≡ judged room (firstOf (conflictNodeChecks t c))
+  unfolding laterVerdict judged
   conflict-judged c = refl
 
-  pub virtual-judged : (c : VirtualConflict) → verdict (Q.VirtualConflict c) t room ≡ judged (sound t) room (firstOf (virtualNodeChecks t c))
-  unfolding verdict judged
+  pub virtual-judged : (c : VirtualConflict) → laterVerdict (Q.VirtualConflict c) t room ≡ judged room (firstOf (virtualNodeChecks t c))
+  unfolding laterVerdict judged
   virtual-judged c = refl
 
-  pub expansion-judged : (e : Expansion) → verdict (Q.Expansion e) t room ≡ judged (sound t) room (firstOf (expansionNodeChecks t e))
-  unfolding verdict judged
+  pub expansion-judged : (e : Expansion) → laterVerdict (Q.Expansion e) t room ≡ judged room (firstOf (expansionNodeChecks t e))
+  unfolding laterVerdict judged
   expansion-judged e = refl
 
-pub judged-unsound : (s : Bool) (room : ℕ) (v : Verdict) → s ≡ false → judged s room v ≡ W.Refused NotSound
+pub judged-no-room : (room m : ℕ) (v : Verdict) → m ≡ room → m < 4096 → judged room v ≡ W.Refused NoCommandRoom
 unfolding judged
-judged-unsound s room v e = rw e
+judged-no-room room m v f h = let h′ : room < 4096 = rw f at h in rw (lt-ltb room 4096 h′)
 
-pub judged-no-room : (s : Bool) (room m : ℕ) (v : Verdict) → s ≡ true → m ≡ room → m < 4096 → judged s room v ≡ W.Refused NoCommandRoom
+pub judged-nodes : (room m : ℕ) (v w : Verdict) → m ≡ room → 4096 ≤ m → w ≡ v → judged room v ≡ w
 unfolding judged
-judged-no-room s room m v e f h = let h′ : room < 4096 = rw f at h in rw (e, lt-ltb room 4096 h′)
-
-pub judged-nodes : (s : Bool) (room m : ℕ) (v w : Verdict) → s ≡ true → m ≡ room → 4096 ≤ m → w ≡ v → judged s room v ≡ w
-unfolding judged
-judged-nodes s room m v w e f h q = let h′ : 4096 ≤ room = rw f at h in rw (e, le-ltb room 4096 h′) (sym q)
+judged-nodes room m v w f h q = let h′ : 4096 ≤ room = rw f at h in rw (le-ltb room 4096 h′) (sym q)
 
 -- ---- reset and listing
 
 module _ (t : Table) (room : ℕ) where
-  pub reset-unsound : sound t ≡ false → verdict Q.Reset t room ≡ W.Refused NotSound
-  unfolding verdict
-  reset-unsound e = rw e
+  pub reset-accepted : laterVerdict Q.Reset t room ≡ W.Accepted
+  unfolding laterVerdict
+  reset-accepted = refl
 
-  pub reset-sound : sound t ≡ true → verdict Q.Reset t room ≡ W.Accepted
-  unfolding verdict
-  reset-sound e = rw e
-
-  pub list-unsound : sound t ≡ false → verdict Q.List t room ≡ W.Refused NotSound
-  unfolding verdict
-  list-unsound e = rw e
-
-  pub list-no-room : (m k d : ℕ) → sound t ≡ true → d ≡ presentDefects t → m ≡ room → k ≡ 16 * d → m < k → verdict Q.List t room ≡ W.Refused NoListingRoom
-  unfolding verdict
-  list-no-room m k d e f g n h =
+  pub list-no-room : (m k d : ℕ) → d ≡ presentDefects t → m ≡ room → k ≡ 16 * d → m < k → laterVerdict Q.List t room ≡ W.Refused NoListingRoom
+  unfolding laterVerdict
+  list-no-room m k d f g n h =
       let h′ : room < 16 * presentDefects t = rw (g, n, f) at h in
-      rw (e, lt-ltb room (16 * presentDefects t) h′)
+      rw (lt-ltb room (16 * presentDefects t) h′)
 
-  pub list-room : (m k d : ℕ) → sound t ≡ true → d ≡ presentDefects t → m ≡ room → k ≡ 16 * d → k ≤ m → verdict Q.List t room ≡ W.Accepted
-  unfolding verdict
-  list-room m k d e f g n h =
+  pub list-room : (m k d : ℕ) → d ≡ presentDefects t → m ≡ room → k ≡ 16 * d → k ≤ m → laterVerdict Q.List t room ≡ W.Accepted
+  unfolding laterVerdict
+  list-room m k d f g n h =
       let h′ : 16 * presentDefects t ≤ room = rw (g, n, f) at h in
-      rw (e, le-ltb room (16 * presentDefects t) h′)
+      rw (le-ltb room (16 * presentDefects t) h′)
 
 pub reset-world :
     (words words′ bytes : List ℕ) (pos : ℕ)
