@@ -47,3 +47,6 @@ pub mod Resetting
 pub mod TreesInPairs
 pub mod Answering
 pub mod KeptWithoutBlossoms
+pub mod MinusNodes
+pub mod TreeCommands
+pub mod AugmentCommands
