@@ -50,3 +50,4 @@ pub mod KeptWithoutBlossoms
 pub mod MinusNodes
 pub mod TreeCommands
 pub mod AugmentCommands
+pub mod RowCommands
