@@ -51,3 +51,4 @@ pub mod MinusNodes
 pub mod TreeCommands
 pub mod AugmentCommands
 pub mod RowCommands
+pub mod RequestCommands
