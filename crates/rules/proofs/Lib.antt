@@ -52,3 +52,5 @@ pub mod TreeCommands
 pub mod AugmentCommands
 pub mod RowCommands
 pub mod RequestCommands
+pub mod CommandRecords
+pub mod RulesCommand
