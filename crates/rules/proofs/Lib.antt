@@ -54,3 +54,5 @@ pub mod RowCommands
 pub mod RequestCommands
 pub mod CommandRecords
 pub mod RulesCommand
+pub mod CommandBytes
+pub mod AnsweredCommands

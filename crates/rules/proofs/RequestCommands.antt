@@ -37,11 +37,11 @@ one-passed : (b : Bool) (r : Refusal) (v : Verdict) → pick b (W.Refused r) v �
 one-passed true r v e = let z : _≡_ {A = ℕ} 0 1 = cc in absurd (omega arith)
 one-passed false r v e = (refl, e)
 
-abbrev NoneApplies : List Check → Type 0
+abbrev pub NoneApplies : List Check → Type 0
 NoneApplies [] = Unit {0}
 NoneApplies (c ∷ cs) = (c .applies ≡ false) × NoneApplies cs
 
-none-applies : (cs : List Check) → firstOf cs ≡ W.Accepted → NoneApplies cs
+pub none-applies : (cs : List Check) → firstOf cs ≡ W.Accepted → NoneApplies cs
 none-applies [] e = tt
 none-applies (c ∷ cs) e = let r = one-passed (c .applies) (c .refusal) (firstOf cs) e in (r .0, none-applies cs (r .1))
 
@@ -49,7 +49,7 @@ neither : (a b : Bool) → (a || b) ≡ false → (a ≡ false) × (b ≡ false)
 neither true b e = let z : _≡_ {A = ℕ} 0 1 = cc in absurd (omega arith)
 neither false b e = (refl, e)
 
-holds-then : (b : Bool) → not b ≡ false → T b
+pub holds-then : (b : Bool) → not b ≡ false → T b
 holds-then true e = tt
 holds-then false e = let z : _≡_ {A = ℕ} 0 1 = cc in absurd (omega arith)
 

@@ -1,0 +1,102 @@
+-- What the answer to one of the three requests says, refused or accepted: commands alone, at most 510, and where the request is
+-- accepted there is room for them.
+use mathlib.Core.Path.{_≡_, refl}
+use mathlib.Core.Bool.{Bool, true, false, not}
+use mathlib.Core.List.{List, []}
+use Prim.Native.Nat.{ℕ, _+_, _-_, _≤_}
+use native.Mathlib.Omega.{arith}
+use lib.Dec.{T}
+use lib.ListN.{length}
+use borrow.Author.Tests.{ltb-false}
+use Rattle.table.specs.Table.{Table}
+use Rattle.table.proofs.Laws.{Full}
+use Rattle.refusal.specs.declared.Verdict.{Verdict}
+use Rattle.refusal.specs.declared.Verdict.the-variants as W
+use Rattle.record.specs.declared.request.Conflict.{Conflict}
+use Rattle.record.specs.declared.request.VirtualConflict.{VirtualConflict}
+use Rattle.record.specs.declared.request.Expansion.{Expansion}
+use Rattle.record.specs.declared.request.Request.{Request}
+use Rattle.record.specs.declared.request.Request.the-variants as Q
+use Rattle.record.specs.Writing.{Out, outOf, placed, writeAll, bytesOf}
+use Rattle.rules.specs.Act.{Did, skip}
+use Rattle.rules.specs.Conflict.{conflict, virtualConflict}
+use Rattle.rules.specs.Expansion.{expansion}
+use Rattle.rules.specs.Sound.{sound}
+use Rattle.rules.specs.Refusals.{conflictChecks, virtualChecks, expansionChecks, conflictNodeChecks, virtualNodeChecks, expansionNodeChecks}
+use Rattle.rules.specs.Calls.{actOf, actBy, verdict, answered}
+use Rattle.rules.proofs.SoundParts.{sound→core, sound→rest}
+use Rattle.rules.proofs.Renewing.{Whole}
+use Rattle.rules.proofs.CommandRecords.{AllCommands, commands-size}
+use Rattle.rules.proofs.CommandBytes.{written-all, commands-fit}
+use Rattle.rules.proofs.RulesCommand.{conflict-only, virtual-only, expansion-only}
+use Rattle.rules.proofs.RequestCommands.{none-applies, holds-then, conflict-most, virtual-most}
+
+-- "the three requests": what they say is commands; a reset says nothing, a listing its pairs
+abbrev pub givesCommands : Request → Bool
+givesCommands (Q.Conflict c) = true
+givesCommands (Q.VirtualConflict c) = true
+givesCommands (Q.Expansion e) = true
+givesCommands Q.Reset = false
+givesCommands Q.List = false
+
+-- the bound of an expansion
+abbrev pub ExpansionCommands : Type 0
+ExpansionCommands = (t : Table) (room : ℕ) (e : Expansion) → Whole t → verdict (Q.Expansion e) t room ≡ W.Accepted → length (expansion (e .node .0) t .said) ≤ 256
+
+pub to-whole : (t : Table) → Full t → T (sound t) → Whole t
+to-whole t full s = record { full = full; core = sound→core t full s; rest = sound→rest t full s }
+
+-- accepted: the table is sound, and there are 4,096 bytes
+accepted-so : (r : Request) → T (givesCommands r) → (t : Table) (room : ℕ) → verdict r t room ≡ W.Accepted → T (sound t) × (4096 ≤ room)
+unfolding verdict
+accepted-so (Q.Conflict c) g t room e = let p = none-applies (conflictChecks t room c) e in (holds-then (sound t) (p .0), ltb-false room 4096 (p .1 .0))
+accepted-so (Q.VirtualConflict c) g t room e = let p = none-applies (virtualChecks t room c) e in (holds-then (sound t) (p .0), ltb-false room 4096 (p .1 .0))
+accepted-so (Q.Expansion x) g t room e = let p = none-applies (expansionChecks t room x) e in (holds-then (sound t) (p .0), ltb-false room 4096 (p .1 .0))
+accepted-so Q.Reset g t room e = absurd g
+accepted-so Q.List g t room e = absurd g
+
+-- ---- commands alone
+
+only-by : (v : Verdict) (r : Request) → T (givesCommands r) → (t : Table) → AllCommands (actBy v r t .said)
+unfolding skip
+only-by W.Accepted (Q.Conflict c) g t = conflict-only c t
+only-by W.Accepted (Q.VirtualConflict c) g t = virtual-only c t
+only-by W.Accepted (Q.Expansion e) g t = expansion-only (e .node .0) t
+only-by W.Accepted Q.Reset g t = absurd g
+only-by W.Accepted Q.List g t = absurd g
+only-by (W.Refused n) r g t = tt
+
+pub answered-only : (r : Request) → T (givesCommands r) → (room : ℕ) (t : Table) → AllCommands (answered r room t .said)
+unfolding answered
+answered-only r g room t = only-by (verdict r t room) r g t
+
+-- ---- so many
+
+module _ (expansion-commands : ExpansionCommands) (t : Table) (full : Full t) (room : ℕ) where
+  act-most : (r : Request) → T (givesCommands r) → Whole t → verdict r t room ≡ W.Accepted → length (actOf r t .said) ≤ 510
+  act-most (Q.Conflict c) g w e = conflict-most t room w c e
+  act-most (Q.VirtualConflict c) g w e = omega (arith, virtual-most t room w c e)
+  act-most (Q.Expansion x) g w e = omega (arith, expansion-commands t room x w e)
+  act-most Q.Reset g w e = absurd g
+  act-most Q.List g w e = absurd g
+
+  most-by : (r : Request) → T (givesCommands r) → (v : Verdict) → verdict r t room ≡ v → length (actBy v r t .said) ≤ 510
+  unfolding skip
+  most-by r g W.Accepted e = act-most r g (to-whole t full (accepted-so r g t room e .0)) e
+  most-by r g (W.Refused n) e = omega arith
+
+  pub answered-most : (r : Request) → T (givesCommands r) → length (answered r room t .said) ≤ 510
+  unfolding answered
+  answered-most r g = most-by r g (verdict r t room) refl
+
+  -- ---- and so many bytes
+
+  fits-by : (r : Request) → T (givesCommands r) → (v : Verdict) → verdict r t room ≡ v → length (bytesOf (actBy v r t .said)) ≤ room
+  unfolding skip bytesOf
+  fits-by r g W.Accepted e =
+      omega (arith, commands-size (actOf r t .said) (only-by W.Accepted r g t), most-by r g W.Accepted e, accepted-so r g t room e .1)
+  fits-by r g (W.Refused n) e = omega arith
+
+  pub answered-fits : (r : Request) → T (givesCommands r) → length (bytesOf (answered r room t .said)) ≤ room
+  unfolding answered
+  answered-fits r g = fits-by r g (verdict r t room) refl
