@@ -1,34 +1,34 @@
 -- What the answer to one of the three requests says, refused or accepted: commands alone, at most 510, and where the request is
 -- accepted there is room for them.
 use mathlib.Core.Path.{_≡_, refl}
-use mathlib.Core.Bool.{Bool, true, false, not}
-use mathlib.Core.List.{List, []}
-use Prim.Native.Nat.{ℕ, _+_, _-_, _≤_}
+use mathlib.Core.Bool.{Bool, true, false}
+use mathlib.Core.List.{List, [], _∷_, _++_}
+use Prim.Native.Nat.{ℕ, _+_, _≤_}
 use native.Mathlib.Omega.{arith}
 use lib.Dec.{T}
-use lib.ListN.{length}
+use lib.ListN.{length, length-append}
 use borrow.Author.Tests.{ltb-false}
 use Rattle.table.specs.Table.{Table}
 use Rattle.table.proofs.Laws.{Full}
 use Rattle.refusal.specs.declared.Verdict.{Verdict}
 use Rattle.refusal.specs.declared.Verdict.the-variants as W
-use Rattle.record.specs.declared.request.Conflict.{Conflict}
-use Rattle.record.specs.declared.request.VirtualConflict.{VirtualConflict}
 use Rattle.record.specs.declared.request.Expansion.{Expansion}
 use Rattle.record.specs.declared.request.Request.{Request}
 use Rattle.record.specs.declared.request.Request.the-variants as Q
-use Rattle.record.specs.Writing.{Out, outOf, placed, writeAll, bytesOf}
-use Rattle.rules.specs.Act.{Did, skip}
-use Rattle.rules.specs.Conflict.{conflict, virtualConflict}
+use Rattle.record.specs.declared.answer.Record.{Record}
+use Rattle.record.specs.declared.answer.Record.the-variants as R
+use Rattle.record.specs.Records.{answerBytes}
+use Rattle.record.specs.Writing.{bytesOf}
+use Rattle.rules.specs.Act.{World, skip}
 use Rattle.rules.specs.Expansion.{expansion}
 use Rattle.rules.specs.Sound.{sound}
-use Rattle.rules.specs.Refusals.{conflictChecks, virtualChecks, expansionChecks, conflictNodeChecks, virtualNodeChecks, expansionNodeChecks}
+use Rattle.rules.specs.Refusals.{conflictChecks, virtualChecks, expansionChecks}
 use Rattle.rules.specs.Calls.{actOf, actBy, verdict, answered}
+use Rattle.rules.specs.Run.{room}
 use Rattle.rules.proofs.SoundParts.{sound→core, sound→rest}
 use Rattle.rules.proofs.Renewing.{Whole}
 use Rattle.rules.proofs.CommandRecords.{AllCommands, commands-size}
-use Rattle.rules.proofs.CommandBytes.{written-all, commands-fit}
-use Rattle.rules.proofs.RulesCommand.{conflict-only, virtual-only, expansion-only}
+use Rattle.rules.proofs.CommandsAlone.{conflict-only, virtual-only, expansion-only}
 use Rattle.rules.proofs.RequestCommands.{none-applies, holds-then, conflict-most, virtual-most}
 
 -- "the three requests": what they say is commands; a reset says nothing, a listing its pairs
@@ -72,31 +72,43 @@ answered-only r g room t = only-by (verdict r t room) r g t
 
 -- ---- so many
 
-module _ (expansion-commands : ExpansionCommands) (t : Table) (full : Full t) (room : ℕ) where
-  act-most : (r : Request) → T (givesCommands r) → Whole t → verdict r t room ≡ W.Accepted → length (actOf r t .said) ≤ 510
-  act-most (Q.Conflict c) g w e = conflict-most t room w c e
-  act-most (Q.VirtualConflict c) g w e = omega (arith, virtual-most t room w c e)
-  act-most (Q.Expansion x) g w e = omega (arith, expansion-commands t room x w e)
+module _ (expansion-commands : ExpansionCommands) (t : Table) (full : Full t) (space : ℕ) where
+  act-most : (r : Request) → T (givesCommands r) → Whole t → verdict r t space ≡ W.Accepted → length (actOf r t .said) ≤ 510
+  act-most (Q.Conflict c) g w e = conflict-most t space w c e
+  act-most (Q.VirtualConflict c) g w e = omega (arith, virtual-most t space w c e)
+  act-most (Q.Expansion x) g w e = omega (arith, expansion-commands t space x w e)
   act-most Q.Reset g w e = absurd g
   act-most Q.List g w e = absurd g
 
-  most-by : (r : Request) → T (givesCommands r) → (v : Verdict) → verdict r t room ≡ v → length (actBy v r t .said) ≤ 510
+  most-by : (r : Request) → T (givesCommands r) → (v : Verdict) → verdict r t space ≡ v → length (actBy v r t .said) ≤ 510
   unfolding skip
-  most-by r g W.Accepted e = act-most r g (to-whole t full (accepted-so r g t room e .0)) e
+  most-by r g W.Accepted e = act-most r g (to-whole t full (accepted-so r g t space e .0)) e
   most-by r g (W.Refused n) e = omega arith
 
-  pub answered-most : (r : Request) → T (givesCommands r) → length (answered r room t .said) ≤ 510
+  pub answered-most : (r : Request) → T (givesCommands r) → length (answered r space t .said) ≤ 510
   unfolding answered
-  answered-most r g = most-by r g (verdict r t room) refl
+  answered-most r g = most-by r g (verdict r t space) refl
 
   -- ---- and so many bytes
 
-  fits-by : (r : Request) → T (givesCommands r) → (v : Verdict) → verdict r t room ≡ v → length (bytesOf (actBy v r t .said)) ≤ room
-  unfolding skip bytesOf
-  fits-by r g W.Accepted e =
-      omega (arith, commands-size (actOf r t .said) (only-by W.Accepted r g t), most-by r g W.Accepted e, accepted-so r g t room e .1)
-  fits-by r g (W.Refused n) e = omega arith
+  pub answered-size : (r : Request) → T (givesCommands r) → length (bytesOf (answered r space t .said)) ≤ 4080
+  answered-size r g = omega (arith, commands-size (answered r space t .said) (answered-only r g space t), answered-most r g)
 
-  pub answered-fits : (r : Request) → T (givesCommands r) → length (bytesOf (answered r room t .said)) ≤ room
-  unfolding answered
-  answered-fits r g = fits-by r g (verdict r t room) refl
+  fits-by : (r : Request) → T (givesCommands r) → (v : Verdict) → verdict r t space ≡ v → length (bytesOf (answered r space t .said)) ≤ space
+  unfolding answered skip bytesOf
+  fits-by r g W.Accepted e = omega (arith, answered-size r g, accepted-so r g t space e .1)
+  fits-by r g (W.Refused n) e = rw e (omega arith)
+
+  pub answered-fits : (r : Request) → T (givesCommands r) → length (bytesOf (answered r space t .said)) ≤ space
+  answered-fits r g = fits-by r g (verdict r t space) refl
+
+-- ---- in a run the end record follows
+
+end-size : (rs : List Record) (n : ℕ) → length (bytesOf (rs ++ R.End n ∷ [])) ≡ length (bytesOf rs) + 6
+unfolding bytesOf answerBytes
+end-size [] n = refl
+end-size (r ∷ rs) n =
+    omega (arith, length-append (answerBytes r) (bytesOf (rs ++ R.End n ∷ [])), length-append (answerBytes r) (bytesOf rs), end-size rs n)
+
+pub ended-fits : ExpansionCommands → (w : World) → Full (w .table) → (r : Request) → T (givesCommands r) → (n : ℕ) → 4102 ≤ room w → length (bytesOf (answered r (room w) (w .table) .said ++ R.End n ∷ [])) ≤ room w
+ended-fits x w full r g n h = omega (arith, end-size (answered r (room w) (w .table) .said) n, answered-size x (w .table) full (room w) r g)

@@ -1,6 +1,6 @@
 -- How many commands augmenting at a Grow node gives: at most four for each − node of the table that is one no more.
-use mathlib.Core.Path.{_≡_, refl, ap, sym, _∙_}
-use mathlib.Core.Logic.{_≢_, _⊎_, inl, inr}
+use mathlib.Core.Path.{_≡_, refl, ap, _∙_}
+use mathlib.Core.Logic.{_≢_, inl, inr}
 use mathlib.Core.List.{List, [], _∷_}
 use Prim.Native.Nat.{ℕ, zero, suc, _+_, _*_, _≤_}
 use native.Mathlib.Omega.{arith}
@@ -10,9 +10,9 @@ use Rattle.slot.specs.declared.state.State.the-variants as S
 use Rattle.slot.specs.Number.{none}
 use Rattle.slot.specs.Slot.{Link, Slot}
 use Rattle.table.specs.Table.{Table, at, put}
-use Rattle.table.proofs.Laws.{Full, at-put-same, at-put-other, put-full}
+use Rattle.table.proofs.Laws.{at-put-same, at-put-other, put-full}
 use Rattle.nodes.specs.Nodes.{outer}
-use Rattle.rules.specs.Act.{Act, skip, change, _then_, look, choose, alter}
+use Rattle.rules.specs.Act.{skip, change, _then_, look, choose, alter}
 use Rattle.rules.specs.Slots.{withFirstChild, up}
 use Rattle.rules.specs.Trees.{upward}
 use Rattle.rules.specs.Chain.{Chain}
@@ -28,7 +28,7 @@ use Rattle.rules.proofs.Trimming.{Aside, Trimmed, trimmed, trimmed-way}
 use Rattle.rules.proofs.Augmented.{Augmented, Stem, stem, a-has-child}
 use Rattle.rules.proofs.WholeTrees.{augments}
 use Rattle.rules.proofs.MinusNodes.{shrinks, minuses, minuses-fewer}
-use Rattle.rules.proofs.TreeCommands.{commands, then-commands, match-commands, match-fewer, siblings-pay, some-commands}
+use Rattle.rules.proofs.SubtreeCommands.{commands, then-commands, match-commands, match-fewer, siblings-pay, some-commands}
 
 -- ---- the list below one node
 

@@ -1,11 +1,11 @@
 -- What the three requests say is commands alone, and how many bytes commands take.
-use mathlib.Core.Bool.{Bool, true, false, not}
+use mathlib.Core.Bool.{Bool, true, false}
 use mathlib.Core.List.{List, [], _∷_, _++_}
-use Prim.Native.Nat.{ℕ, zero, suc, _*_, _≤_}
+use Prim.Native.Nat.{ℕ, _*_, _≤_}
 use native.Mathlib.Omega.{arith}
-use lib.Dec.{T, eqb}
+use lib.Dec.{T}
 use lib.ListN.{length, length-append}
-use Rattle.slot.specs.Slot.{Link, Slot, mirror}
+use Rattle.slot.specs.Slot.{Slot}
 use Rattle.table.specs.Table.{Table}
 use Rattle.record.specs.declared.answer.Record.{Record}
 use Rattle.record.specs.declared.answer.Record.the-variants as R

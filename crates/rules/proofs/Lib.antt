@@ -48,11 +48,13 @@ pub mod TreesInPairs
 pub mod Answering
 pub mod KeptWithoutBlossoms
 pub mod MinusNodes
-pub mod TreeCommands
+pub mod SubtreeCommands
 pub mod AugmentCommands
 pub mod RowCommands
 pub mod RequestCommands
 pub mod CommandRecords
-pub mod RulesCommand
+pub mod CommandsAlone
 pub mod CommandBytes
 pub mod AnsweredCommands
+pub mod MostCommands
+pub mod CommandsFit

@@ -1,24 +1,21 @@
 -- How many − nodes a table has. Where nothing but Stay is written over them there are ever fewer; and each has a child of its
 -- own, so that a sound table with a root, or a free node, has at most 127.
 use mathlib.Core.Path.{_≡_, refl, ap, sym, _∙_}
-use mathlib.Core.Logic.{_≢_, _⊎_, inl, inr}
-use mathlib.Core.Bool.{Bool, true, false, not}
+use mathlib.Core.Logic.{_⊎_, inl, inr}
+use mathlib.Core.Bool.{Bool, true, false}
 use mathlib.Core.List.{List, [], _∷_, _++_}
-use Prim.Native.Nat.{ℕ, zero, suc, _+_, _*_, _≤_, _<_}
+use Prim.Native.Nat.{ℕ, zero, suc, _+_, _≤_, _<_}
 use native.Mathlib.Omega.{arith}
 use lib.Dec.{T}
 use lib.ListN.{length, length-append}
-use Rattle.lists.specs.Choice.{pick}
-use Rattle.slot.specs.declared.state.State.the-variants as S
 use Rattle.slot.specs.Number.{none}
-use Rattle.slot.specs.Slot.{Slot}
 use Rattle.table.specs.Table.{Table, at}
 use Rattle.nodes.specs.Nodes.{outer}
 use Rattle.rules.specs.Slots.{isShrink, up}
 use Rattle.rules.specs.Trees.{root}
 use Rattle.rules.specs.Chain.{_∈_, NoDup}
 use Rattle.rules.specs.FactsOfNodes.{Minus, Plus, OuterChild}
-use Rattle.rules.proofs.Reflect.{same-or-not, test-case, not↔}
+use Rattle.rules.proofs.Reflect.{same-or-not}
 use Rattle.rules.proofs.ReflectSlots.{shrink↔, grow-shrink}
 use Rattle.rules.proofs.Members.{in-append→, →nodup-append}
 use Rattle.rules.proofs.Pigeonhole.{pigeonhole}

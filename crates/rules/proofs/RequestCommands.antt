@@ -5,7 +5,7 @@ use mathlib.Core.Bool.{Bool, true, false, not, _&&_, _||_}
 use mathlib.Core.List.{List, [], _∷_}
 use Prim.Native.Nat.{ℕ, _≤_}
 use native.Mathlib.Omega.{arith}
-use lib.Dec.{T, eqb, ltb}
+use lib.Dec.{T, ltb}
 use Rattle.lists.specs.Choice.{pick}
 use Rattle.slot.specs.declared.state.State.the-variants as S
 use Rattle.slot.specs.State.{isOuter, isPresent}
@@ -27,8 +27,8 @@ use Rattle.rules.specs.Calls.{verdict}
 use Rattle.rules.proofs.Reflect.{eq→eqb}
 use Rattle.rules.proofs.ReflectSlots.{grow↔, shrink↔}
 use Rattle.rules.proofs.Renewing.{Whole}
-use Rattle.rules.proofs.Loading.{Loaded, load-does}
-use Rattle.rules.proofs.TreeCommands.{commands, then-commands}
+use Rattle.rules.proofs.Loading.{load-does}
+use Rattle.rules.proofs.SubtreeCommands.{commands}
 use Rattle.rules.proofs.RowCommands.{resolved-commands, freed-commands}
 
 -- ---- accepted: no test applies

@@ -1,5 +1,5 @@
 -- How many commands each row of "What a conflict does" gives, and a virtual conflict, on a sound table.
-use mathlib.Core.Path.{_≡_, refl, sym}
+use mathlib.Core.Path.{_≡_, refl}
 use mathlib.Core.Logic.{_≢_, _⊎_, inl, inr}
 use mathlib.Core.Bool.{Bool, true, false, not}
 use Prim.Native.Nat.{ℕ, _+_, _*_, _≤_}
@@ -29,7 +29,7 @@ use Rattle.rules.proofs.WholeTrees.{augment-does, nothing-aside}
 use Rattle.rules.proofs.Rows.{agree-but, inTreeOf, tree-closed}
 use Rattle.rules.proofs.Resolving.{Spot, free-spot, virtual-spot, paired-spot, tree-spot, spot}
 use Rattle.rules.proofs.MinusNodes.{minuses, few-minuses}
-use Rattle.rules.proofs.TreeCommands.{commands, then-commands, match-commands}
+use Rattle.rules.proofs.SubtreeCommands.{commands, then-commands, match-commands}
 use Rattle.rules.proofs.AugmentCommands.{tree-pays}
 
 -- ---- one tree is augmented

@@ -1,14 +1,13 @@
 -- Every rule of the three requests says commands alone, whatever the table.
-use mathlib.Core.Bool.{Bool, true, false, not}
+use mathlib.Core.Bool.{Bool, false, not}
 use Prim.Native.Nat.{ℕ, zero, suc}
 use Rattle.slot.specs.Slot.{Link, Slot, mirror}
-use Rattle.table.specs.Table.{Table}
 use Rattle.nodes.specs.declared.place.Place.{Place}
 use Rattle.nodes.specs.declared.place.Place.the-variants as P
 use Rattle.nodes.specs.Place.{place}
 use Rattle.record.specs.declared.request.Conflict.{Conflict}
 use Rattle.record.specs.declared.request.VirtualConflict.{VirtualConflict}
-use Rattle.rules.specs.Act.{Act, skip, say, change, _then_, look, read, choose}
+use Rattle.rules.specs.Act.{Act, skip, say, change, _then_, look}
 use Rattle.rules.specs.Matching.{temporaryMatch, temporaryMatchVirtual, unlessNone, subtree, matchSiblings, augmentSubtree, augmentWithin, augmentWholeTree}
 use Rattle.rules.specs.Blossom.{createBlossom}
 use Rattle.rules.specs.Expansion.{matchChain, attach, attachDown, attachUp, ringOpened, expandBlossom, expansion}

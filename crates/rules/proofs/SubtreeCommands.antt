@@ -1,9 +1,7 @@
--- How many commands matching subtrees and augmenting give. Each − node is matched with its child once, and is a − node no more:
--- two commands. Each − node on the way up is matched once more: another two. So what a rule says, and for each − node that it
--- leaves so many more, is no more than so many for each − node that there was.
-use mathlib.Core.Path.{_≡_, refl, ap, sym, _∙_}
-use mathlib.Core.Logic.{_≢_, _⊎_, inl, inr}
-use mathlib.Core.List.{List, [], _∷_}
+-- How many commands matching subtrees gives, counted against the − nodes of the table: each − node is matched with its child, two
+-- commands, and is a − node no more.
+use mathlib.Core.Path.{_≡_, refl, _∙_}
+use mathlib.Core.Logic.{_≢_, inl, inr}
 use Prim.Native.Nat.{ℕ, zero, suc, _+_, _*_, _≤_, _<_}
 use native.Mathlib.Decide.{decLt}
 use native.Mathlib.Omega.{arith}
@@ -14,9 +12,8 @@ use Rattle.slot.specs.Number.{none}
 use Rattle.slot.specs.Slot.{Link, Slot}
 use Rattle.table.specs.Table.{Table, at, put}
 use Rattle.table.proofs.Laws.{Full, at-put-same, at-put-other, at-out, put-full}
-use Rattle.nodes.specs.Nodes.{outer}
 use Rattle.rules.specs.Act.{Act, skip, say, change, _then_, alter}
-use Rattle.rules.specs.Slots.{withFirstChild, isShrink, up, next}
+use Rattle.rules.specs.Slots.{isShrink, next}
 use Rattle.rules.specs.Matching.{temporaryMatch, matchSiblings}
 use Rattle.rules.proofs.Reflect.{same-or-not}
 use Rattle.rules.proofs.ReflectSlots.{shrink↔}
