@@ -14,7 +14,8 @@ use Rattle.rules.specs.Concerns.{concerns, isMaking}
 use Rattle.rules.proofs.Renewing.{Whole}
 use Rattle.rules.proofs.Wholes.{to-whole}
 use Rattle.rules.proofs.Keeping.{act-keeps}
-use Rattle.rules.specs.Orders.{isOfTheThree, Asked, ApartIn, Ask, AllAsked, PairwiseApart, doneInOrder, AcceptedInOrder, givenInOrder, givenFirst, Reordered}
+use Rattle.rules.specs.Commands.{givesCommands}
+use Rattle.rules.specs.Orders.{Asked, ApartIn, Ask, AllAsked, PairwiseApart, doneInOrder, AcceptedInOrder, givenInOrder, givenFirst, Reordered}
 use Rattle.rules.proofs.Areas.{apart-back}
 use Rattle.rules.proofs.TwoRequests.{accepted-after, same-table, same-commands}
 use Rattle.rules.proofs.StillApart.{still-apart}
@@ -24,7 +25,7 @@ use Rattle.rules.proofs.Reordering.{reordered-table, reordered-given, g
 
 module _ (t : Table) (full : Full t) (s : T (sound t))
     (r q : Request) (m n : ℕ)
-    (r-three : T (isOfTheThree r)) (q-three : T (isOfTheThree q))
+    (r-three : T (givesCommands r)) (q-three : T (givesCommands q))
     (r-accepted : verdict r t m ≡ W.Accepted) (q-accepted : verdict q t n ≡ W.Accepted)
     (apart : (j : ℕ) → ¬ (T (concerns r t j) × T (concerns q t j)))
     (one-making : ¬ (T (isMaking r t) × T (isMaking q t))) where

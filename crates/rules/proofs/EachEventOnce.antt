@@ -14,7 +14,6 @@ use Rattle.table.proofs.Laws.{Full}
 use Rattle.nodes.specs.Nodes.{isBlossom, outer}
 use Rattle.nodes.specs.declared.place.Place.the-variants.{Paired, Virtual}
 use Rattle.nodes.specs.Place.{place}
-use Rattle.record.specs.declared.answer.Record.{Record}
 use Rattle.record.specs.Writing.{outOf, writeAll, bytesOf}
 use Rattle.rules.specs.Act.{nodeOf}
 use Rattle.rules.specs.Sound.{sound}
@@ -26,14 +25,6 @@ use Rattle.rules.proofs.ListedOnce.{listing-count, matched-count, listi
 use Rattle.rules.proofs.MatchedPlaces.{stay↔matched}
 use Rattle.rules.proofs.ListingRoom.{listing-size, run-written}
 use Rattle.rules.proofs.ListingEnough.{pair-budget, virtual-budget}
-
--- where there is room for a run of records, their bytes stand one after another from the position on, and every other byte is as
--- it was
-pub all-written :
-    (rs : List Record) (l : List ℕ) (p : ℕ)
-    → p + length (bytesOf rs) ≤ length l
-    → writeAll (outOf l p) rs ≡ outOf (take p l ++ bytesOf rs ++ drop (p + length (bytesOf rs)) l) (p + length (bytesOf rs))
-all-written rs l p h = run-written rs l p h
 
 module _ (t : Table) (full : Full t) (s : T (sound t)) where
   -- a present defect is named once where the outer node around it is matched; no other number is named
@@ -61,7 +52,7 @@ module _ (t : Table) (full : Full t) (s : T (sound t)) where
       → p + 16 * presentDefects t ≤ length l
       → writeAll (outOf l p) (listing t)
       ≡ outOf (take p l ++ bytesOf (listing t) ++ drop (p + length (bytesOf (listing t))) l) (p + length (bytesOf (listing t)))
-  listing-written l p h = all-written (listing t) l p (omega (arith, listing-fits))
+  listing-written l p h = run-written (listing t) l p (omega (arith, listing-fits))
 
   -- the calls that the listing makes at an outer slot list the same with every larger budget
   pub listing-budget :

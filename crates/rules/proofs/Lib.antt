@@ -113,3 +113,14 @@ pub mod StillApart
 pub mod Reordering
 pub mod AnyOrder
 pub mod OrderExamples
+pub mod MinusNodes
+pub mod SubtreeCommands
+pub mod AugmentCommands
+pub mod RowCommands
+pub mod RequestCommands
+pub mod CommandRecords
+pub mod CommandsAlone
+pub mod CommandBytes
+pub mod AnsweredCommands
+pub mod MostCommands
+pub mod CommandsFit

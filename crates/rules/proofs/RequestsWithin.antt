@@ -34,7 +34,7 @@ use Rattle.rules.proofs.ReadingWithin.{seen-alike, defect-inside-alike,
 use Rattle.rules.proofs.ConflictWithin.{conflict-acted, virtual-acts}
 use Rattle.rules.proofs.ExpansionWithin.{expansion-acted}
 use Rattle.rules.proofs.NamedNodes.{conflict-named, virtual-named, expansion-named}
-use Rattle.rules.specs.Orders.{isOfTheThree}
+use Rattle.rules.specs.Commands.{givesCommands}
 use Rattle.rules.proofs.Areas.{InArea, fresh, named-concerned, named-in, inside-in}
 
 -- ---- what is done
@@ -63,7 +63,7 @@ module _ (t : Table) (room : ℕ) (w : Whole t) (u : Table) where
 
   pub request-acted :
       (r : Request)
-      → T (isOfTheThree r)
+      → T (givesCommands r)
       → verdict r t room ≡ W.Accepted
       → Alike (InArea r t) t u
       → (T (isMaking r t) → t .blossoms ≡ u .blossoms)
@@ -159,7 +159,7 @@ module _ (t : Table) (room : ℕ) (w : Whole t) (u : Table) where
 
   pub request-verdict :
       (r : Request)
-      → T (isOfTheThree r)
+      → T (givesCommands r)
       → verdict r t room ≡ W.Accepted
       → T (sound t)
       → T (sound u)

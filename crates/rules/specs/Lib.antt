@@ -17,4 +17,5 @@ pub mod Refusals
 pub mod Calls
 pub mod Concerns
 pub mod Run
+pub mod Commands
 pub mod Orders

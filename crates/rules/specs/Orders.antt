@@ -1,31 +1,22 @@
 -- What "in either order" and "in any order" say: requests that are apart, a list of them done one after another, and its
 -- reorderings.
 use mathlib.Core.Path.{_≡_}
-use mathlib.Core.Bool.{Bool, true, false}
 use mathlib.Core.List.{List, [], _∷_}
 use Prim.Native.Nat.{ℕ}
 use lib.Dec.{T}
 use Rattle.table.specs.Table.{Table}
 use Rattle.record.specs.declared.request.Request.{Request}
-use Rattle.record.specs.declared.request.Request.the-variants as Q
 use Rattle.record.specs.declared.answer.Record.{Record}
 use Rattle.refusal.specs.declared.Verdict.the-variants as W
 use Rattle.rules.specs.Calls.{verdict, answered}
+use Rattle.rules.specs.Commands.{givesCommands}
 use Rattle.rules.specs.Concerns.{concerns, isMaking}
 
 -- ---- requests on a table
 
--- "the three requests": a conflict, a virtual conflict or an expansion
-abbrev pub isOfTheThree : Request → Bool
-isOfTheThree (Q.Conflict c) = true
-isOfTheThree (Q.VirtualConflict c) = true
-isOfTheThree (Q.Expansion e) = true
-isOfTheThree Q.Reset = false
-isOfTheThree Q.List = false
-
--- one of them, accepted on t with so much room for its commands
+-- one of the three, accepted on t with so much room for its commands
 pub record Asked (t : Table) (r : Request) (room : ℕ) : Type 0 where
-  pub three : T (isOfTheThree r)
+  pub three : T (givesCommands r)
   pub accepted : verdict r t room ≡ W.Accepted
 
 -- r and q concern no common node, and do not both make a blossom
