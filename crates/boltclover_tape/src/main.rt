@@ -36,9 +36,11 @@ fn is_longer() -> bool {
 fn main() {
     let mut text = io::large_buffer();
     let n = io::read_full(STDIN_FILENO, &mut text);
-    if is_longer() {
-        io::write_all(STDERR_FILENO, b"longer than 65536 bytes\n");
-        return;
+    if n == 65536 {
+        if is_longer() {
+            io::write_all(STDERR_FILENO, b"longer than 65536 bytes\n");
+            return;
+        }
     }
     write_tape(&text[..n]);
 }

@@ -1,6 +1,6 @@
 -- What a reader may rely on beyond the contracts: which bytes a number is written in, what a word says, and that a number that was
 -- written is read back. The definitions stand in specs/Decimal.
-use mathlib.Core.Path.{_≡_, refl, sym, ap, _∙_}
+use mathlib.Core.Path.{_≡_, refl, _∙_}
 use mathlib.Core.Bool.{Bool, true, false}
 use mathlib.Core.List.{List, [], _∷_, _++_}
 use mathlib.Core.Logic.{_↔_}
@@ -9,7 +9,6 @@ use native.Mathlib.Omega.{arith}
 use lib.Dec.{leb}
 use borrow.Author.Tests.{leb-true, le-leb, lt-leb}
 use Rattle.lists.specs.Choice.{pick}
-use Rattle.decimals.specs.declared.Number.{Number}
 use Rattle.decimals.specs.declared.Number.the-variants.{Is, Unreadable}
 use Rattle.decimals.specs.Decimal.{digit, decimalIn, decimal, isNumber, value, numberWithin}
 use Rattle.decimals.proofs.Digits.{one-digit, more-digits, steps, decimal-number, decimal-value}

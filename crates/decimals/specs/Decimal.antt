@@ -35,7 +35,7 @@ abbrev pub isNumber : List ℕ → Bool
 isNumber [] = false
 isNumber (b ∷ bs) = allDigits (b ∷ bs)
 
--- what digits add to v, which stands before them
+-- the value of digits that stand after v: each makes ten times as much of what is before it
 abbrev pub valueAfter : ℕ → List ℕ → ℕ
 valueAfter v [] = v
 valueAfter v (b ∷ bs) = valueAfter (v * 10 + (b - 48)) bs
