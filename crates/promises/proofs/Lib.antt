@@ -1,4 +1,6 @@
 pub mod Accepted
+pub mod Determining
 pub mod Unique
+pub mod TwoCalls
 pub mod EitherOrder
 pub mod DoingLittle

@@ -1,0 +1,123 @@
+/* Work to count instructions of, done so many times over, with the static library.
+ *
+ *   driver run TIMES <TAPE       the tape on a fresh table of begin 128, and the requests and answer bytes of one time
+ *   driver sound TABLE TIMES     the soundness check of a table
+ *   driver list TABLE TIMES      its listing
+ *   driver reset TIMES           emptying a table
+ *
+ * TABLE is fresh, half (128 nodes in pairs), pairs (256 nodes in pairs), tree (255 nodes, one path), wide (255 nodes, every pair
+ * at the root), nested (85 blossoms, each in the next).
+ */
+#include <stdint.h>
+#include <stdio.h>
+#include <stdlib.h>
+#include <string.h>
+
+#include "boltclover.h"
+
+#define MOST 65536
+
+static uint16_t table[2819];
+static uint8_t tape[MOST];
+static uint8_t out[MOST];
+
+static void must(int fine, const char *what)
+{
+	if (!fine) {
+		fprintf(stderr, "driver: %s\n", what);
+		exit(1);
+	}
+}
+
+static void meet(uint16_t a, uint16_t b, uint16_t touch_a, uint16_t touch_b)
+{
+	size_t written;
+	must(boltclover_conflict(table, a, b, touch_a, touch_b, 1000 + touch_a, 1000 + touch_b, out, MOST, &written) == 0, "a conflict is refused");
+}
+
+static void pairs(uint16_t from, uint16_t to)
+{
+	for (uint16_t n = from; n + 1 < to; n += 2)
+		meet(n, n + 1, n, n + 1);
+}
+
+/* 85 blossoms on 171 defects: each takes the one before it and a pair more; every touch of a blossom is defect 0 */
+static void nest(void)
+{
+	uint16_t inside = 0;
+	pairs(1, 171);
+	for (uint16_t k = 0; k < 85; k++) {
+		uint16_t minus = 1 + 2 * k, plus = 2 + 2 * k;
+		meet(inside, minus, 0, minus);
+		meet(inside, plus, 0, plus);
+		inside = 171 + k;
+	}
+}
+
+static void build(const char *name)
+{
+	must(boltclover_make(table, strcmp(name, "nested") == 0 ? 171 : strcmp(name, "fresh") == 0 ? 128 : 256) == 0, "making is refused");
+	if (strcmp(name, "half") == 0)
+		pairs(0, 128);
+	else if (strcmp(name, "pairs") == 0)
+		pairs(0, 256);
+	else if (strcmp(name, "tree") == 0) {
+		pairs(1, 255);
+		for (uint16_t n = 0; n + 2 < 255; n += 2)
+			meet(n, n + 1, n, n + 1);
+	} else if (strcmp(name, "wide") == 0) {
+		pairs(1, 255);
+		for (uint16_t n = 0; n + 2 < 255; n += 2)
+			meet(0, n + 1, 0, n + 1);
+	} else if (strcmp(name, "nested") == 0)
+		nest();
+	else
+		must(strcmp(name, "fresh") == 0, "no such table");
+}
+
+static void run(size_t length, unsigned times)
+{
+	uint32_t requests = 0;
+	size_t bytes = 0;
+	for (unsigned i = 0; i < times; i++) {
+		size_t at = 0;
+		requests = 0;
+		bytes = 0;
+		must(boltclover_make(table, 128) == 0, "making is refused");
+		while (at < length) {
+			uint16_t stop;
+			uint32_t handled;
+			size_t written, unread;
+			must(boltclover_run(table, tape + at, length - at, out, MOST, MOST, &stop, &handled, &written, &unread) == 0, "the run is refused");
+			must(stop == 0 || stop == 2, "the tape is bad");
+			requests += handled;
+			bytes += written;
+			at = length - unread;
+		}
+	}
+	printf("requests %u answer bytes %zu\n", (unsigned)requests, bytes);
+}
+
+int main(int argc, char **argv)
+{
+	must(argc >= 3, "run TIMES | sound TABLE TIMES | list TABLE TIMES | reset TIMES");
+	if (strcmp(argv[1], "run") == 0) {
+		run(fread(tape, 1, MOST, stdin), atoi(argv[2]));
+	} else if (strcmp(argv[1], "reset") == 0) {
+		build("pairs");
+		for (int i = 0; i < atoi(argv[2]); i++)
+			must(boltclover_reset(table) == 0, "reset is refused");
+	} else {
+		size_t written = 0;
+		must(argc == 4, "a table and a number");
+		build(argv[2]);
+		for (int i = 0; i < atoi(argv[3]); i++) {
+			if (strcmp(argv[1], "sound") == 0)
+				must(boltclover_sound(table) == 1, "the table is not sound");
+			else
+				must(boltclover_list(table, out, MOST, &written) == 0, "the listing is refused");
+		}
+		printf("bytes listed %zu\n", written);
+	}
+	return 0;
+}
