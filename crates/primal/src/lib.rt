@@ -49,26 +49,38 @@ pub fn is_sound(t: &Table) -> bool
 pub fn conflict(t: &mut Table, out: &mut [u8], request: Conflict) -> Answer
     ensures { λ r. ⌜ Call (Q.Conflict request) (now (t .entry)) (now (out .entry)) r (now (t .exit)) (now (out .exit)) ⌝ }
 {
-    serving::conflict(t, out, 0, request)
+    if !sound::is_sound(t) {
+        return Answer::Refused(Refusal::NotSound);
+    }
+    handling::conflict(t, out, 0, request)
 }
 
 pub fn virtual_conflict(t: &mut Table, out: &mut [u8], request: VirtualConflict) -> Answer
     ensures { λ r. ⌜ Call (Q.VirtualConflict request) (now (t .entry)) (now (out .entry)) r (now (t .exit)) (now (out .exit)) ⌝ }
 {
-    serving::virtual_conflict(t, out, 0, request)
+    if !sound::is_sound(t) {
+        return Answer::Refused(Refusal::NotSound);
+    }
+    handling::virtual_conflict(t, out, 0, request)
 }
 
 pub fn expand(t: &mut Table, out: &mut [u8], request: Expansion) -> Answer
     ensures { λ r. ⌜ Call (Q.Expansion request) (now (t .entry)) (now (out .entry)) r (now (t .exit)) (now (out .exit)) ⌝ }
 {
-    serving::expand(t, out, 0, request)
+    if !sound::is_sound(t) {
+        return Answer::Refused(Refusal::NotSound);
+    }
+    handling::expand(t, out, 0, request)
 }
 
 // The listing. Done gives the bytes of its entries.
 pub fn list(t: &Table, out: &mut [u8]) -> Answer
     ensures { λ r. ⌜ Call Q.List (now (t .entry)) (now (out .entry)) r (now (t .entry)) (now (out .exit)) ⌝ }
 {
-    serving::list(t, out, 0)
+    if !sound::is_sound(t) {
+        return Answer::Refused(Refusal::NotSound);
+    }
+    handling::list(t, out, 0)
 }
 
 // The request that stands first on a tape and the bytes that its record fills, or refusal 12.

@@ -19,7 +19,7 @@ use Rattle.record.specs.Writing.{writeAll}
 use Rattle.rules.specs.Act.{Act, World, worldOf, run, change}
 use Rattle.rules.specs.Calls.{actOf, verdict}
 use Rattle.rules.specs.Run.{Ran, unsound, ran, runTape}
-use Rattle.serving.specs.Answered.{Outcome}
+use Rattle.handling.specs.Handled.{Outcome}
 use Rattle.running.specs.Tape.{HandsOut, Tape}
 use Rattle.primal.specs.Call.{Call, Reset}
 use Rattle.primal_c.specs.Numbered.{Told, Numbered, Called, WasReset, WasMade, RanTape, Run}

@@ -15,7 +15,7 @@ use Rattle.rules.specs.FactsOfBlossoms.{Touches}
 use Rattle.rules.proofs.ReflectSlots.{outer-present, inner-present}
 use Rattle.rules.proofs.Renewing.{of-none, Whole}
 
-fresh-full : (b : ℕ) → Full (fresh b)
+pub fresh-full : (b : ℕ) → Full (fresh b)
 unfolding fresh
 fresh-full b = length-replicate 256 emptySlot
 
@@ -23,7 +23,7 @@ fresh-below : (b n : ℕ) → n < 256 → at (fresh b) n ≡ emptySlot
 unfolding at fresh
 fresh-below b n l = getD-replicate 256 n emptySlot emptySlot l
 
-fresh-at : (b n : ℕ) → at (fresh b) n ≡ emptySlot
+pub fresh-at : (b n : ℕ) → at (fresh b) n ≡ emptySlot
 fresh-at b n = elim (decLt n 256) [ yes l ↦ fresh-below b n l | no g ↦ at-out (fresh b) n (fresh-full b) (omega arith) ]
 
 fresh-absent : (b n : ℕ) → ¬ T (present (fresh b) n)
@@ -39,7 +39,7 @@ fresh-pointers b n = rw (fresh-at b n) (record { parent = of-none; child = of-no
 fresh-touches : (b n : ℕ) → Touches (fresh b) n
 fresh-touches b n = record { touch = rw (fresh-at b n) of-none; peer-touch = λ d. absurd (d (ap (λ (s : Slot). s .link .peerTouch) (fresh-at b n))) }
 
-fresh-whole : (b : ℕ) → 1 ≤ b → b ≤ 256 → Whole (fresh b)
+pub fresh-whole : (b : ℕ) → 1 ≤ b → b ≤ 256 → Whole (fresh b)
 fresh-whole b low high =
     record {
       full = fresh-full b;

@@ -25,7 +25,7 @@ use Rattle.rules.proofs.OuterLists.{upward-outer, upward-fits, upward�
 use Rattle.rules.proofs.ChildLaws.{above-outer, outer-some}
 
 -- the climb of `root`, with budget enough, comes to the end of the way up
-root-end : (t : Table) (k n : ℕ) (cs : List ℕ) → Chain (up t) n cs → n ≢ none → length cs ≤ suc k → rootWithin k t n ≡ endOf cs
+pub root-end : (t : Table) (k n : ℕ) (cs : List ℕ) → Chain (up t) n cs → n ≢ none → length cs ≤ suc k → rootWithin k t n ≡ endOf cs
 unfolding rootWithin
 root-end t k n [] p d l = absurd (d p)
 root-end t zero n (c ∷ []) p d l = rw (p .0, eqb-yes (up t c) none (p .2))

@@ -12,7 +12,10 @@ pub mod Blossom
 pub mod Expansion
 pub mod Conflict
 pub mod Listing
+pub mod Named
 pub mod Refusals
 pub mod Calls
 pub mod Concerns
 pub mod Run
+pub mod Commands
+pub mod Orders

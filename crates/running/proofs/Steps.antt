@@ -1,5 +1,6 @@
 -- A request served: its answer, and then its end record.
 use mathlib.Core.Path.{_≡_, refl, sym, ap, _∙_}
+use mathlib.Core.Bool.{true}
 use mathlib.Core.List.{List, [], _∷_, _++_}
 use Prim.Native.Nat.{ℕ, _-_}
 use lib.ListN.{length}
@@ -18,9 +19,15 @@ use Rattle.record.specs.Writing.{Out, outOf, written, writeAll}
 use Rattle.rules.specs.Act.{Act, World, worldOf, run, skip}
 use Rattle.rules.specs.Calls.{actOf, actBy, verdict, verdictNumber, answered}
 use Rattle.rules.specs.Run.{served}
+use Rattle.table.proofs.WordsOfSlots.{slots-length}
+use Rattle.table.proofs.Laws.{Full}
+use Rattle.rules.proofs.Reflect.{test-true}
+use Rattle.rules.proofs.Kept.{served-keeps-sound}
 use Rattle.rules.proofs.Runs.{world, writeAll-append, run-skip}
-use Rattle.serving.specs.Answered.{Outcome, Answered}
-use Rattle.running.specs.Tape.{posAfter}
+use Rattle.rules.specs.Sound.{sound}
+use Rattle.handling.specs.Handled.{Outcome, laterVerdict}
+use Rattle.handling.proofs.Verdicts.{sound-verdict}
+use Rattle.running.specs.Tape.{posAfter, Serves}
 
 -- an act, and one record more
 abbrev pub ended : World → Act → ℕ → World
@@ -57,8 +64,31 @@ module _ (q : Request) (pos : ℕ) (words bytes words′ bytes′ : List ℕ) (a
       rw (h .1, p′)
       (sym (served-by q words bytes pos (W.Refused n) e ∙ ended-run w skip (verdictNumber (W.Refused n)) ∙ rw run-skip))
 
-  pub served-step :
-      Answered q pos words bytes a words′ bytes′
-      → o ≡ written (outOf bytes′ (posAfter pos a)) (answerBytes (R.End (answerNumber a)))
-      → world (tableOf words′) o ≡ served q (worldOf words bytes pos)
-  served-step h p = by-verdict (verdict q (tableOf words) (length bytes - pos)) refl h p
+pub served-step :
+    (q : Request) (pos p : ℕ) (words bytes words′ bytes′ bytes″ : List ℕ) (a : Answer)
+    → Outcome (laterVerdict q (tableOf words) (length bytes - pos)) (actOf q) pos words bytes a words′ bytes′
+    → outOf bytes″ p ≡ written (outOf bytes′ (posAfter pos a)) (answerBytes (R.End (answerNumber a)))
+    → Serves q pos words bytes p words′ bytes″
+unfolding Serves
+served-step q pos p words bytes words′ bytes′ bytes″ a h e s =
+    by-verdict q pos words bytes words′ bytes′ a (outOf bytes″ p) (laterVerdict q (tableOf words) (length bytes - pos)) (sound-verdict q (tableOf words) (length bytes - pos) s) h e
+
+pub served-world :
+    (q : Request) (pos p : ℕ) (words bytes words′ bytes′ : List ℕ)
+    → Serves q pos words bytes p words′ bytes′
+    → sound (tableOf words) ≡ true
+    → worldOf words′ bytes′ p ≡ served q (worldOf words bytes pos)
+unfolding Serves
+served-world q pos p words bytes words′ bytes′ h s = h s
+
+served-keeps : (q : Request) (w : World) → Full (w .table) → sound (w .table) ≡ true → sound (served q w .table) ≡ true
+served-keeps q w full s = test-true (sound (served q w .table)) (served-keeps-sound q w full (rw s tt))
+
+-- each request leaves a sound table sound
+pub served-sound :
+    (q : Request) (pos p : ℕ) (words bytes words′ bytes′ : List ℕ)
+    → Serves q pos words bytes p words′ bytes′
+    → sound (tableOf words) ≡ true
+    → sound (tableOf words′) ≡ true
+served-sound q pos p words bytes words′ bytes′ h s =
+    ap (λ (w : World). sound (w .table)) (served-world q pos p words bytes words′ bytes′ h s) ∙ served-keeps q (worldOf words bytes pos) (slots-length words) s

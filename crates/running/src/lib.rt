@@ -13,9 +13,7 @@ ghost use Rattle.record.specs.declared.request.Request.the-variants as Q;
 ghost use Rattle.record.specs.declared.answer.Record.the-variants as R;
 ghost use Rattle.record.specs.Records.{answerBytes};
 ghost use Rattle.record.specs.Writing.{outOf, written};
-ghost use Rattle.rules.specs.Act.{worldOf};
-ghost use Rattle.rules.specs.Run.{served};
-ghost use Rattle.running.specs.Tape.{posAfter, Tape};
+ghost use Rattle.running.specs.Tape.{posAfter, Serves, Tape};
 
 // The end record: 0, or the refusal's number.
 fn end(out: &mut [u8], pos: usize, answer: Answer) -> usize
@@ -27,44 +25,44 @@ fn end(out: &mut [u8], pos: usize, answer: Answer) -> usize
     }
 }
 
+// One record, on a table that is known to be sound: what the request answers, and its end.
 fn serve_conflict(t: &mut Table, out: &mut [u8], pos: usize, c: Conflict) -> usize
-    ensures { λ r. ⌜ worldOf (now (t .exit)) (now (out .exit)) r ≡ served (Q.Conflict c) (worldOf (now (t .entry)) (now (out .entry)) pos) ⌝ }
+    ensures { λ r. ⌜ Serves (Q.Conflict c) pos (now (t .entry)) (now (out .entry)) r (now (t .exit)) (now (out .exit)) ⌝ }
 {
-    let answer = serving::conflict(t, out, pos, c);
+    let answer = handling::conflict(t, out, pos, c);
     end(out, pos, answer)
 }
 
 fn serve_virtual_conflict(t: &mut Table, out: &mut [u8], pos: usize, c: VirtualConflict) -> usize
-    ensures { λ r. ⌜ worldOf (now (t .exit)) (now (out .exit)) r ≡ served (Q.VirtualConflict c) (worldOf (now (t .entry)) (now (out .entry)) pos) ⌝ }
+    ensures { λ r. ⌜ Serves (Q.VirtualConflict c) pos (now (t .entry)) (now (out .entry)) r (now (t .exit)) (now (out .exit)) ⌝ }
 {
-    let answer = serving::virtual_conflict(t, out, pos, c);
+    let answer = handling::virtual_conflict(t, out, pos, c);
     end(out, pos, answer)
 }
 
 fn serve_expansion(t: &mut Table, out: &mut [u8], pos: usize, e: Expansion) -> usize
-    ensures { λ r. ⌜ worldOf (now (t .exit)) (now (out .exit)) r ≡ served (Q.Expansion e) (worldOf (now (t .entry)) (now (out .entry)) pos) ⌝ }
+    ensures { λ r. ⌜ Serves (Q.Expansion e) pos (now (t .entry)) (now (out .entry)) r (now (t .exit)) (now (out .exit)) ⌝ }
 {
-    let answer = serving::expand(t, out, pos, e);
+    let answer = handling::expand(t, out, pos, e);
     end(out, pos, answer)
 }
 
 fn serve_reset(t: &mut Table, out: &mut [u8], pos: usize) -> usize
-    ensures { λ r. ⌜ worldOf (now (t .exit)) (now (out .exit)) r ≡ served Q.Reset (worldOf (now (t .entry)) (now (out .entry)) pos) ⌝ }
+    ensures { λ r. ⌜ Serves Q.Reset pos (now (t .entry)) (now (out .entry)) r (now (t .exit)) (now (out .exit)) ⌝ }
 {
-    let answer = serving::reset(t, out, pos);
+    let answer = handling::reset(t, out, pos);
     end(out, pos, answer)
 }
 
 fn serve_list(t: &mut Table, out: &mut [u8], pos: usize) -> usize
-    ensures { λ r. ⌜ worldOf (now (t .exit)) (now (out .exit)) r ≡ served Q.List (worldOf (now (t .entry)) (now (out .entry)) pos) ⌝ }
+    ensures { λ r. ⌜ Serves Q.List pos (now (t .entry)) (now (out .entry)) r (now (t .exit)) (now (out .exit)) ⌝ }
 {
-    let answer = serving::list(t, out, pos);
+    let answer = handling::list(t, out, pos);
     end(out, pos, answer)
 }
 
-// One record: what the request answers, and its end.
 fn serve(t: &mut Table, out: &mut [u8], pos: usize, request: Request) -> usize
-    ensures { λ r. ⌜ worldOf (now (t .exit)) (now (out .exit)) r ≡ served request (worldOf (now (t .entry)) (now (out .entry)) pos) ⌝ }
+    ensures { λ r. ⌜ Serves request pos (now (t .entry)) (now (out .entry)) r (now (t .exit)) (now (out .exit)) ⌝ }
 {
     match request {
         Request::Conflict(c) => serve_conflict(t, out, pos, c),
@@ -76,7 +74,7 @@ fn serve(t: &mut Table, out: &mut [u8], pos: usize, request: Request) -> usize
 }
 
 // Handles the tape's records, at most so many, and returns its unread rest. The stop, the refusal, the records handled and the
-// bytes written go into the numbers lent.
+// bytes written go into the numbers lent. The table is checked once: each request leaves a sound table sound.
 pub fn run<'a>(
     t: &mut Table,
     tape: &'a [u8],
@@ -115,7 +113,7 @@ pub fn run<'a>(
             *written = pos;
             return rest;
         }
-        if serving::room(out, pos) < 4102 {
+        if handling::room(out, pos) < 4102 {
             *stop = 2;
             *refusal = 0;
             *handled = count;

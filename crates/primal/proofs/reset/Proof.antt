@@ -1,4 +1,6 @@
-use Rattle.serving.proofs.Steps.{refused-by, accepted-by, reset-unsound, reset-sound, reset-world}
+use Rattle.primal.proofs.Steps.{refused-by}
+use Rattle.handling.proofs.Steps.{accepted-by, reset-accepted, reset-world}
+use Rattle.handling.proofs.Verdicts.{unsound-verdict, sound-verdict}
 use borrow.Author.Tests.{not-true, not-false}
 use mathlib.Core.Path.{sym, _∙_}
 use borrow.Author.Needs.{needs}
@@ -8,6 +10,6 @@ use Rattle.primal.proofs.reset.Tie as tie
 pub reset-spec : {M : Type 1} → statement M
 reset-spec = tie.close (tie.spec
     (λ c κs. search needs)
-    (λ c. refused-by _ _ _ _ _ _ (reset-unsound _ _ (sym (c .before .is-sound .ensures) ∙ not-true _ (c .if1 .taken))))
+    (λ c. refused-by _ _ _ _ _ (unsound-verdict _ _ _ (sym (c .before .is-sound .ensures) ∙ not-true _ (c .if1 .taken))))
     (λ c κs. search needs)
-    (λ c. accepted-by _ _ _ _ _ _ _ _ (reset-sound _ _ (sym (c .before .before .before .is-sound .ensures) ∙ not-false _ (c .before .before .if1 .left))) (reset-world _ _ _ _ (c .empty-table .ensures))))
+    (λ c. accepted-by _ _ _ _ _ _ _ _ (sound-verdict _ _ _ (sym (c .before .before .before .is-sound .ensures) ∙ not-false _ (c .before .before .if1 .left)) ∙ reset-accepted _ _) (reset-world _ _ _ _ (c .empty-table .ensures))))

@@ -1,0 +1,4 @@
+pub mod Digits
+pub mod Copy
+pub mod Scan
+pub mod Theorems

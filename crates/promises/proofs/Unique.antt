@@ -1,0 +1,170 @@
+-- Unique results: any two results that satisfy a public call's promise for the same arguments coincide: the answer, the words, every
+-- byte of the lent bytes, the returned rest. A table is lent as 2,819 words of 16 bits, which is what `Lent` says of the words
+-- after a call.
+use mathlib.Core.Path.{_≡_, refl, ap, sym, _∙_}
+use mathlib.Core.Logic.{_≢_}
+use mathlib.Core.Bool.{Bool, true, false}
+use mathlib.Core.List.{List}
+use Prim.Native.Nat.{ℕ}
+use lib.Dec.{T}
+use lib.ListN.{length}
+use Rattle.lists.specs.Choice.{pick}
+use Rattle.table.specs.Table.{Table, at}
+use Rattle.slot.specs.declared.state.State.the-variants as S
+use Rattle.slot.specs.Slot.{Slot, emptySlot}
+use native.Mathlib.Omega.{arith}
+use Rattle.table.specs.Words.{tableOf}
+use Rattle.table.proofs.Laws.{Full}
+use Rattle.table.proofs.WordsOfSlots.{slots-length}
+use Rattle.table.proofs.Determined.{Words, Undamaged, words-determined}
+use Rattle.counts.specs.Making.{Made, beginFits, fresh}
+use Rattle.refusal.specs.declared.Answer.{Answer}
+use Rattle.refusal.specs.declared.Answer.the-variants as A
+use Rattle.refusal.specs.declared.Refusal.the-variants.{BadBegin, NotSound}
+use Rattle.refusal.specs.declared.Verdict.{Verdict}
+use Rattle.refusal.specs.declared.Verdict.the-variants as W
+use Rattle.refusal.specs.Refusal.{answerWritten}
+use Rattle.record.specs.declared.request.Request.{Request}
+use Rattle.record.specs.declared.request.Reading.{Reading}
+use Rattle.record.specs.Reading as reading
+use Rattle.record.specs.Writing.{Wrote, wroteOf, wrote, outOf}
+use Rattle.rules.specs.Act.{Act, World, worldOf, run}
+use Rattle.rules.specs.Sound.{sound}
+use Rattle.rules.specs.Calls.{actOf, actBy, verdict, answered}
+use Rattle.rules.specs.Run.{Ran, unsound, ran, Ended, Progress, began, runFrom, runTape}
+use Rattle.rules.proofs.Resetting.{fresh-at}
+use Rattle.rules.proofs.Kept.{answered-keeps-sound, run-keeps-sound}
+use Rattle.rules.proofs.SoundFacts.{sound→facts}
+use Rattle.handling.specs.Handled.{Outcome}
+use Rattle.handling.proofs.Verdicts.{unsound-verdict}
+use Rattle.primal.specs.Call.{Call, Reset}
+use Rattle.running.specs.Tape.{HandsOut, Tape}
+
+abbrev pub Lent : List ℕ → Type 0
+Lent words = (length words ≡ 2819) × Words words
+
+-- the words of a sound table are determined by it
+same-words : (words words′ : List ℕ) → Lent words → Lent words′ → tableOf words ≡ tableOf words′ → T (sound (tableOf words)) → words ≡ words′
+same-words words words′ l l′ e s =
+    words-determined words words′ (l .1) (l′ .1) e (λ n q. sound→facts (tableOf words) (slots-length words) s .rest .undamaged n) (l .0) (l′ .0)
+
+-- ---- making
+
+made-once :
+    (fits : Bool) (before : List ℕ) (b : ℕ) (r r′ : Answer) (after after′ : List ℕ)
+    → Lent after
+    → Lent after′
+    → pick fits ((r ≡ A.Done 0) × (tableOf after ≡ fresh b)) ((r ≡ A.Refused BadBegin) × (after ≡ before))
+    → pick fits ((r′ ≡ A.Done 0) × (tableOf after′ ≡ fresh b)) ((r′ ≡ A.Refused BadBegin) × (after′ ≡ before))
+    → (r ≡ r′) × (after ≡ after′)
+made-once true before b r r′ after after′ l l′ h h′ =
+    let clear : Undamaged (tableOf after) = λ n q e. let f : S.Empty ≡ S.Damaged = sym (ap (λ (t : Table). at t n .state) (h .1) ∙ ap (λ (x : Slot). x .state) (fresh-at b n)) ∙ e in let z : _≡_ {A = ℕ} 0 1 = cc in absurd (omega arith) in
+    (h .0 ∙ sym (h′ .0), words-determined after after′ (l .1) (l′ .1) (h .1 ∙ sym (h′ .1)) clear (l .0) (l′ .0))
+made-once false before b r r′ after after′ l l′ h h′ = (h .0 ∙ sym (h′ .0), h .1 ∙ sym (h′ .1))
+
+pub make-once :
+    (before : List ℕ) (b : ℕ) (r r′ : Answer) (after after′ : List ℕ)
+    → Lent after
+    → Lent after′
+    → Made before b r after
+    → Made before b r′ after′
+    → (r ≡ r′) × (after ≡ after′)
+make-once before b r r′ after after′ l l′ h h′ = made-once (beginFits b) before b r r′ after after′ l l′ h h′
+
+-- ---- requests
+
+module _ (act : Act) (pos : ℕ) (words bytes : List ℕ) (r r′ : Answer) (words₁ words₂ bytes₁ bytes₂ : List ℕ) where
+  outcome-once :
+      (v : Verdict)
+      → (v ≡ W.Accepted → tableOf words₁ ≡ act (tableOf words) .table → tableOf words₁ ≡ tableOf words₂ → words₁ ≡ words₂)
+      → Outcome v act pos words bytes r words₁ bytes₁
+      → Outcome v act pos words bytes r′ words₂ bytes₂
+      → (r ≡ r′) × (words₁ ≡ words₂) × (bytes₁ ≡ bytes₂)
+  unfolding run
+  outcome-once (W.Refused n) same h k = (h .0 ∙ sym (k .0), h .1 ∙ sym (k .1), h .2 ∙ sym (k .2))
+  outcome-once W.Accepted same h k =
+      let e : worldOf words₁ bytes₁ (answerWritten r) ≡ worldOf words₂ bytes₂ (answerWritten r′) = h .1 ∙ sym (k .1) in
+      (h .0 ∙ ap (λ (w : World). A.Done (w .out .pos)) e ∙ sym (k .0), same refl (ap (λ (w : World). w .table) (h .1)) (ap (λ (w : World). w .table) e), ap (λ (w : World). w .out .buf) e)
+
+accepted-sound : (q : Request) (t : Table) (room : ℕ) → verdict q t room ≡ W.Accepted → T (sound t)
+accepted-sound q t room e = go (sound t) refl
+  where
+    go : (b : Bool) → sound t ≡ b → T b
+    go true d = tt
+    go false d = let f : W.Refused NotSound ≡ W.Accepted = sym (unsound-verdict q t room d) ∙ e in let z : _≡_ {A = ℕ} 0 1 = cc in absurd (omega arith)
+
+answered-act : (q : Request) (t : Table) (room : ℕ) → verdict q t room ≡ W.Accepted → answered q room t ≡ actOf q t
+unfolding answered
+answered-act q t room e = rw e
+
+pub call-once :
+    (q : Request) (words bytes : List ℕ) (r r′ : Answer) (words₁ words₂ bytes₁ bytes₂ : List ℕ)
+    → Lent words₁
+    → Lent words₂
+    → Call q words bytes r words₁ bytes₁
+    → Call q words bytes r′ words₂ bytes₂
+    → (r ≡ r′) × (words₁ ≡ words₂) × (bytes₁ ≡ bytes₂)
+call-once q words bytes r r′ words₁ words₂ bytes₁ bytes₂ l₁ l₂ h k =
+    let t = tableOf words in
+    let same : verdict q t (length bytes) ≡ W.Accepted → tableOf words₁ ≡ actOf q t .table → tableOf words₁ ≡ tableOf words₂ → words₁ ≡ words₂ =
+    λ a d e.
+    let s = answered-keeps-sound t (slots-length words) (accepted-sound q t (length bytes) a) q (length bytes) in
+    let s′ : T (sound (actOf q t .table)) = rw (answered-act q t (length bytes) a) at s in
+    same-words words₁ words₂ l₁ l₂ e (rw d s′) in
+    outcome-once (actOf q) 0 words bytes r r′ words₁ words₂ bytes₁ bytes₂ (verdict q t (length bytes)) same h k
+
+-- ---- the run
+
+hands-out-once :
+    (x : Ran) (words bytes tape : List ℕ) (stop stop′ refusal refusal′ handled handled′ written written′ : ℕ) (rest rest′ words₁ words₂ bytes₁ bytes₂ : List ℕ)
+    → ((e : Ended) → x ≡ ran e → tableOf words₁ ≡ e .progress .world .table → tableOf words₁ ≡ tableOf words₂ → words₁ ≡ words₂)
+    → HandsOut x words bytes tape stop refusal handled written rest words₁ bytes₁
+    → HandsOut x words bytes tape stop′ refusal′ handled′ written′ rest′ words₂ bytes₂
+    → (stop ≡ stop′) × (refusal ≡ refusal′) × (handled ≡ handled′) × (written ≡ written′) × (rest ≡ rest′) × (words₁ ≡ words₂) × (bytes₁ ≡ bytes₂)
+hands-out-once unsound words bytes tape stop stop′ refusal refusal′ handled handled′ written written′ rest rest′ words₁ words₂ bytes₁ bytes₂ same h k =
+    (h .0 ∙ sym (k .0), h .1 ∙ sym (k .1), h .2 ∙ sym (k .2), h .3 ∙ sym (k .3), h .4 ∙ sym (k .4), h .5 ∙ sym (k .5), h .6 ∙ sym (k .6))
+hands-out-once (ran e) words bytes tape stop stop′ refusal refusal′ handled handled′ written written′ rest rest′ words₁ words₂ bytes₁ bytes₂ same h k =
+    let w : worldOf words₁ bytes₁ written ≡ worldOf words₂ bytes₂ written′ = h .4 ∙ sym (k .4) in
+    (h .0 ∙ sym (k .0), h .1 ∙ sym (k .1), h .2 ∙ sym (k .2), ap (λ (x : World). x .out .pos) w, h .3 ∙ sym (k .3), same e refl (ap (λ (x : World). x .table) (h .4)) (ap (λ (x : World). x .table) w), ap (λ (x : World). x .out .buf) w)
+
+ran-from : (b : Bool) (e₀ e : Ended) → pick b (ran e₀) unsound ≡ ran e → T b × (e₀ ≡ e)
+ran-from true e₀ e q = (tt, cc)
+ran-from false e₀ e q = let z : _≡_ {A = ℕ} 0 1 = cc in absurd (omega arith)
+
+tape-ran : (allowance : ℕ) (w : World) (tape : List ℕ) (e : Ended) → runTape allowance w tape ≡ ran e → T (sound (w .table)) × (runFrom allowance (began w tape) ≡ e)
+unfolding runTape
+tape-ran allowance w tape e q = ran-from (sound (w .table)) (runFrom allowance (began w tape)) e q
+
+pub run-once :
+    (allowance : ℕ) (words bytes tape : List ℕ) (stop stop′ refusal refusal′ handled handled′ written written′ : ℕ) (rest rest′ words₁ words₂ bytes₁ bytes₂ : List ℕ)
+    → Lent words₁
+    → Lent words₂
+    → Tape allowance words bytes tape stop refusal handled written rest words₁ bytes₁
+    → Tape allowance words bytes tape stop′ refusal′ handled′ written′ rest′ words₂ bytes₂
+    → (stop ≡ stop′) × (refusal ≡ refusal′) × (handled ≡ handled′) × (written ≡ written′) × (rest ≡ rest′) × (words₁ ≡ words₂) × (bytes₁ ≡ bytes₂)
+run-once allowance words bytes tape stop stop′ refusal refusal′ handled handled′ written written′ rest rest′ words₁ words₂ bytes₁ bytes₂ l₁ l₂ h k =
+    hands-out-once (runTape allowance (worldOf words bytes 0) tape) words bytes tape stop stop′ refusal refusal′ handled handled′ written written′ rest rest′ words₁ words₂ bytes₁ bytes₂ same h k
+  where
+    same : (e : Ended) → runTape allowance (worldOf words bytes 0) tape ≡ ran e → tableOf words₁ ≡ e .progress .world .table → tableOf words₁ ≡ tableOf words₂ → words₁ ≡ words₂
+    same e q d f =
+        let o = tape-ran allowance (worldOf words bytes 0) tape e q in
+        let s = run-keeps-sound allowance (began (worldOf words bytes 0) tape) (slots-length words) (o .0) in
+        let s′ : T (sound (e .progress .world .table)) = rw (o .1) at s in
+        same-words words₁ words₂ l₁ l₂ f (rw d s′)
+
+-- ---- the soundness check, reading and writing: each promise is an equation for the whole result
+
+pub sound-once : (words : List ℕ) (r r′ : Bool) → r ≡ sound (tableOf words) → r′ ≡ sound (tableOf words) → r ≡ r′
+sound-once words r r′ h k = h ∙ sym k
+
+pub reading-once : (tape : List ℕ) (r r′ : Reading) → r ≡ reading.read tape → r′ ≡ reading.read tape → r ≡ r′
+reading-once tape r r′ h k = h ∙ sym k
+
+-- of a request's bytes or an answer's
+pub writing-once :
+    (bytes record-bytes bytes₁ bytes₂ : List ℕ) (pos : ℕ) (r r′ : Answer)
+    → wroteOf bytes₁ r ≡ wrote (outOf bytes pos) record-bytes
+    → wroteOf bytes₂ r′ ≡ wrote (outOf bytes pos) record-bytes
+    → (r ≡ r′) × (bytes₁ ≡ bytes₂)
+writing-once bytes record-bytes bytes₁ bytes₂ pos r r′ h k =
+    let e = h ∙ sym k in (ap (λ (w : Wrote). w .answer) e, ap (λ (w : Wrote). w .buf) e)
