@@ -1,2 +1,3 @@
--- What the proofs of several calls use.
+-- What the proofs of several calls use, and theorems about the promises.
 mod Telling
+pub mod Unique
