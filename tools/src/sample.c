@@ -62,7 +62,7 @@ int main(int argc, char **argv) {
         if (run_program(argv[1], begin, &tape, &answers)) return fprintf(stderr, "the original refuses %s\n", name), 1;
         save(argv[2], name, "tape", &tape);
         save(argv[2], name, "answers", &answers);
-        printf("%s\n%s.tape\n%s.answers\n", begin, name, name);
+        printf("%03u\n%s.tape\n%s.answers\n", shot.begin, name, name);
     }
     return 0;
 }

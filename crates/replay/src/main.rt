@@ -1,28 +1,24 @@
 // Replays stored tapes and holds the answers to the original's, byte by byte. The arguments are threes: begin, the tape's file and
 // the file of the original's answers.
 use libc::STDOUT_FILENO;
+ghost use Prim.Native.Nat.{_≤_};
 ghost use Rattle.io.specs.Counts.{Counts};
 
-// The number that digits stand for; the first four count.
-fn number(digits: &[u8]) -> u16 {
-    let mut value: u16 = 0;
-    let mut i = 0;
-    while i < digits.len() {
-        value = with_digit(value, digits[i]);
-        i += 1;
+fn digit(byte: u8) -> u16
+    ensures { λ r. ⌜ r ≤ 255 ⌝ }
+{
+    if byte < 48 {
+        return 0;
     }
-    value
+    (byte - 48) as u16
 }
 
-fn with_digit(value: u16, digit: u8) -> u16 {
-    if value < 1000 {
-        if 48 <= digit {
-            if digit <= 57 {
-                return value * 10 + (digit - 48) as u16;
-            }
-        }
+// The number that three digits stand for.
+fn number(digits: &[u8]) -> u16 {
+    if digits.len() < 3 {
+        return 0;
     }
-    value
+    digit(digits[0]) * 100 + digit(digits[1]) * 10 + digit(digits[2])
 }
 
 // The file's first bytes, as many as fit.
