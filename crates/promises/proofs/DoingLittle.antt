@@ -23,12 +23,12 @@ use Rattle.record.specs.Reading as reading
 use Rattle.record.specs.Writing.{outOf, placed, written, writeAll}
 use Rattle.rules.specs.Run.{Ran, unsound, ran, runTape}
 use Rattle.running.specs.Tape.{HandsOut, Tape}
-use Rattle.rules.specs.Act.{Act, World, worldOf, run}
+use Rattle.rules.specs.Act.{World, worldOf}
 use Rattle.rules.specs.Calls.{actOf, verdict}
 use Rattle.rules.proofs.Script.{join, all-rules}
 use Rattle.primal.specs.Call.{Call}
 use Rattle.refusal.specs.Refusal.{answerWritten}
-use Rattle.handling.specs.Handled.{Outcome}
+use Rattle.promises.proofs.Accepted.{done}
 
 unfoldable pub room : List ℕ
 room = replicate 4200 0
@@ -58,16 +58,6 @@ length-room = refl
 
 -- ---- what the promise of an accepted request comes to
 
-done-by :
-    (v : Verdict) (act : Act) (words bytes words′ bytes′ : List ℕ) (r : Answer)
-    → v ≡ W.Accepted
-    → Outcome v act 0 words bytes r words′ bytes′
-    → (r ≡ A.Done (answerWritten r)) × (tableOf words′ ≡ act (tableOf words) .table)
-unfolding run
-done-by v act words bytes words′ bytes′ r e h =
-    let o : (r ≡ A.Done (answerWritten r)) × (worldOf words′ bytes′ (answerWritten r) ≡ run (worldOf words bytes 0) act) = rw e at h in
-    (o .0, ap (λ (w : World). w .table) (o .1))
-
 abbrev Accepts : Request → Type 0
 Accepts q = verdict q (fresh 128) 4200 ≡ W.Accepted
 
@@ -76,10 +66,10 @@ module _ (q : Request) (words words′ bytes′ : List ℕ) (r : Answer) (made :
   accepted = rw (made, length-room) a
 
   is-done : r ≡ A.Done (answerWritten r)
-  is-done = done-by (verdict q (tableOf words) (length room)) (actOf q) words room words′ bytes′ r accepted h .0
+  is-done = done q words room words′ bytes′ r accepted h .answer
 
   new-table : tableOf words′ ≡ actOf q (fresh 128) .table
-  new-table = done-by (verdict q (tableOf words) (length room)) (actOf q) words room words′ bytes′ r accepted h .1 ∙ ap (λ (t : Table). actOf q t .table) made
+  new-table = done q words room words′ bytes′ r accepted h .table ∙ ap (λ (t : Table). actOf q t .table) made
 
 -- 0 and 1, and 2 and 3, which meet on a fresh table
 first-accepted : Accepts (join 0 1)

@@ -1,2 +1,4 @@
+pub mod Accepted
 pub mod Unique
+pub mod EitherOrder
 pub mod DoingLittle

@@ -20,7 +20,7 @@ use Rattle.table.proofs.Determined.{Words, Undamaged, words-determined}
 use Rattle.counts.specs.Making.{Made, beginFits, fresh}
 use Rattle.refusal.specs.declared.Answer.{Answer}
 use Rattle.refusal.specs.declared.Answer.the-variants as A
-use Rattle.refusal.specs.declared.Refusal.the-variants.{BadBegin, NotSound}
+use Rattle.refusal.specs.declared.Refusal.the-variants.{BadBegin}
 use Rattle.refusal.specs.declared.Verdict.{Verdict}
 use Rattle.refusal.specs.declared.Verdict.the-variants as W
 use Rattle.refusal.specs.Refusal.{answerWritten}
@@ -30,21 +30,21 @@ use Rattle.record.specs.Reading as reading
 use Rattle.record.specs.Writing.{Wrote, wroteOf, wrote, outOf}
 use Rattle.rules.specs.Act.{Act, World, worldOf, run}
 use Rattle.rules.specs.Sound.{sound}
-use Rattle.rules.specs.Calls.{actOf, actBy, verdict, answered}
+use Rattle.rules.specs.Calls.{actOf, verdict}
 use Rattle.rules.specs.Run.{Ran, unsound, ran, Ended, Progress, began, runFrom, runTape}
 use Rattle.rules.proofs.Resetting.{fresh-at}
-use Rattle.rules.proofs.Kept.{answered-keeps-sound, run-keeps-sound}
+use Rattle.rules.proofs.Kept.{run-keeps-sound}
 use Rattle.rules.proofs.SoundFacts.{sound→facts}
 use Rattle.handling.specs.Handled.{Outcome}
-use Rattle.handling.proofs.Verdicts.{unsound-verdict}
-use Rattle.primal.specs.Call.{Call, Reset}
+use Rattle.primal.specs.Call.{Call}
+use Rattle.promises.proofs.Accepted.{act-sound}
 use Rattle.running.specs.Tape.{HandsOut, Tape}
 
 abbrev pub Lent : List ℕ → Type 0
 Lent words = (length words ≡ 2819) × Words words
 
 -- the words of a sound table are determined by it
-same-words : (words words′ : List ℕ) → Lent words → Lent words′ → tableOf words ≡ tableOf words′ → T (sound (tableOf words)) → words ≡ words′
+pub same-words : (words words′ : List ℕ) → Lent words → Lent words′ → tableOf words ≡ tableOf words′ → T (sound (tableOf words)) → words ≡ words′
 same-words words words′ l l′ e s =
     words-determined words words′ (l .1) (l′ .1) e (λ n q. sound→facts (tableOf words) (slots-length words) s .rest .undamaged n) (l .0) (l′ .0)
 
@@ -86,17 +86,6 @@ module _ (act : Act) (pos : ℕ) (words bytes : List ℕ) (r r′ : Answer) (wor
       let e : worldOf words₁ bytes₁ (answerWritten r) ≡ worldOf words₂ bytes₂ (answerWritten r′) = h .1 ∙ sym (k .1) in
       (h .0 ∙ ap (λ (w : World). A.Done (w .out .pos)) e ∙ sym (k .0), same refl (ap (λ (w : World). w .table) (h .1)) (ap (λ (w : World). w .table) e), ap (λ (w : World). w .out .buf) e)
 
-accepted-sound : (q : Request) (t : Table) (room : ℕ) → verdict q t room ≡ W.Accepted → T (sound t)
-accepted-sound q t room e = go (sound t) refl
-  where
-    go : (b : Bool) → sound t ≡ b → T b
-    go true d = tt
-    go false d = let f : W.Refused NotSound ≡ W.Accepted = sym (unsound-verdict q t room d) ∙ e in let z : _≡_ {A = ℕ} 0 1 = cc in absurd (omega arith)
-
-answered-act : (q : Request) (t : Table) (room : ℕ) → verdict q t room ≡ W.Accepted → answered q room t ≡ actOf q t
-unfolding answered
-answered-act q t room e = rw e
-
 pub call-once :
     (q : Request) (words bytes : List ℕ) (r r′ : Answer) (words₁ words₂ bytes₁ bytes₂ : List ℕ)
     → Lent words₁
@@ -108,9 +97,7 @@ call-once q words bytes r r′ words₁ words₂ bytes₁ bytes₂ l₁ l₂ h k
     let t = tableOf words in
     let same : verdict q t (length bytes) ≡ W.Accepted → tableOf words₁ ≡ actOf q t .table → tableOf words₁ ≡ tableOf words₂ → words₁ ≡ words₂ =
     λ a d e.
-    let s = answered-keeps-sound t (slots-length words) (accepted-sound q t (length bytes) a) q (length bytes) in
-    let s′ : T (sound (actOf q t .table)) = rw (answered-act q t (length bytes) a) at s in
-    same-words words₁ words₂ l₁ l₂ e (rw d s′) in
+    same-words words₁ words₂ l₁ l₂ e (rw d (act-sound q words (length bytes) a)) in
     outcome-once (actOf q) 0 words bytes r r′ words₁ words₂ bytes₁ bytes₂ (verdict q t (length bytes)) same h k
 
 -- ---- the run

@@ -146,7 +146,7 @@ fn reason(out: &mut [u8], pos: usize, refusal: u16) -> usize {
         4 => write_bytes(out, pos, b"a named node is not outer"),
         5 => write_bytes(out, pos, b"both nodes are one"),
         6 => write_bytes(out, pos, b"a touch is not a defect inside its node"),
-        7 => write_bytes(out, pos, b"no named node is Grow"),
+        7 => write_bytes(out, pos, b"no named node is Grow, or one is Shrink"),
         8 => write_bytes(out, pos, b"no slot left for a blossom"),
         9 => write_bytes(out, pos, b"command room below 4096 bytes"),
         10 => write_bytes(
