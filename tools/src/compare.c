@@ -282,7 +282,7 @@ static void play(const char *original, uint64_t seed) {
     if (boltclover_make(words, shot.begin)) difference("making", shot_number, 0, NULL);
     try_make(&shot);
     counts.shots++, counts.by_plan[shot.plan]++;
-    if (!counts.begin_used[shot.begin]++) counts.begins++;
+    counts.begins += !counts.begin_used[shot.begin], counts.begin_used[shot.begin] = 1;
     for (step_number = 0; step_number < shot.length; step_number++) {
         if (chance(&shot.dice, 1, 12)) try_damage(original, &shot, words);
         read_view(&t, words);
