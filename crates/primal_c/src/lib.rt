@@ -1,0 +1,152 @@
+// The public calls for C and Rust, as `include/boltclover.h` declares them. Each passes its arguments to the call of the same
+// name in `primal` and tells the answer in numbers. A slice is a pointer and a length.
+use record::Conflict;
+use record::Expansion;
+use record::VirtualConflict;
+use refusal::Answer;
+use slot::Node;
+use slot::Vertex;
+use table::Table;
+ghost use mathlib.Core.Path.{_≡_};
+ghost use mathlib.Core.List.{[], _∷_};
+ghost use Rattle.table.specs.Words.{tableOf};
+ghost use Rattle.record.specs.Records.{conflictFrom, virtualFrom, expansionFrom};
+ghost use Rattle.record.specs.declared.request.Request.the-variants as Q;
+ghost use Rattle.rules.specs.Sound.{sound};
+ghost use Rattle.primal_c.specs.Numbered.{Told, Called, WasReset, WasMade, oneIf, Run};
+
+// An answer in numbers: 0 and the bytes written, or the refusal's number and no bytes.
+fn tell(answer: Answer, written: &mut usize) -> u16
+    ensures { λ r. ⌜ Told answer r (now (written .exit)) ⌝ }
+{
+    match answer {
+        Answer::Done(bytes) => {
+            *written = bytes;
+            0
+        }
+        Answer::Refused(refusal) => {
+            *written = 0;
+            refusal::number(refusal)
+        }
+    }
+}
+
+#[no_mangle]
+pub extern "C" fn boltclover_make(table: &mut Table, begin: u16) -> u16
+    ensures { λ r. ⌜ WasMade (now (table .entry)) begin r (now (table .exit)) ⌝ }
+{
+    let answer = primal::make(table, begin);
+    refusal::answer_number(answer)
+}
+
+#[no_mangle]
+pub extern "C" fn boltclover_reset(table: &mut Table) -> u16
+    ensures { λ r. ⌜ WasReset (now (table .entry)) r (now (table .exit)) ⌝ }
+{
+    let answer = primal::reset(table);
+    refusal::answer_number(answer)
+}
+
+#[no_mangle]
+pub extern "C" fn boltclover_sound(table: &Table) -> u16
+    ensures { λ r. ⌜ r ≡ oneIf (sound (tableOf (now (table .entry)))) ⌝ }
+{
+    if primal::is_sound(table) { 1 } else { 0 }
+}
+
+#[no_mangle]
+pub extern "C" fn boltclover_conflict(
+    table: &mut Table,
+    node_1: u16,
+    node_2: u16,
+    touch_1: u16,
+    touch_2: u16,
+    vertex_1: u32,
+    vertex_2: u32,
+    out: &mut [u8],
+    written: &mut usize,
+) -> u16
+    ensures { λ r. ⌜ Called (Q.Conflict (conflictFrom (node_1 ∷ node_2 ∷ touch_1 ∷ touch_2 ∷ vertex_1 ∷ vertex_2 ∷ []))) (now (table .entry)) (now (out .entry)) r (now (written .exit)) (now (table .exit)) (now (out .exit)) ⌝ }
+{
+    let request = Conflict {
+        node_1: Node(node_1),
+        node_2: Node(node_2),
+        touch_1: Node(touch_1),
+        touch_2: Node(touch_2),
+        vertex_1: Vertex(vertex_1),
+        vertex_2: Vertex(vertex_2),
+    };
+    let answer = primal::conflict(table, out, request);
+    tell(answer, written)
+}
+
+#[no_mangle]
+pub extern "C" fn boltclover_virtual_conflict(
+    table: &mut Table,
+    node: u16,
+    touch: u16,
+    vertex: u32,
+    virtual_vertex: u32,
+    out: &mut [u8],
+    written: &mut usize,
+) -> u16
+    ensures { λ r. ⌜ Called (Q.VirtualConflict (virtualFrom (node ∷ touch ∷ vertex ∷ «virtual_vertex» ∷ []))) (now (table .entry)) (now (out .entry)) r (now (written .exit)) (now (table .exit)) (now (out .exit)) ⌝ }
+{
+    let request = VirtualConflict {
+        node: Node(node),
+        touch: Node(touch),
+        vertex: Vertex(vertex),
+        virtual_vertex: Vertex(virtual_vertex),
+    };
+    let answer = primal::virtual_conflict(table, out, request);
+    tell(answer, written)
+}
+
+#[no_mangle]
+pub extern "C" fn boltclover_expand(
+    table: &mut Table,
+    node: u16,
+    out: &mut [u8],
+    written: &mut usize,
+) -> u16
+    ensures { λ r. ⌜ Called (Q.Expansion (expansionFrom (node ∷ []))) (now (table .entry)) (now (out .entry)) r (now (written .exit)) (now (table .exit)) (now (out .exit)) ⌝ }
+{
+    let answer = primal::expand(table, out, Expansion { node: Node(node) });
+    tell(answer, written)
+}
+
+#[no_mangle]
+pub extern "C" fn boltclover_list(table: &Table, out: &mut [u8], written: &mut usize) -> u16
+    ensures { λ r. ⌜ Called Q.List (now (table .entry)) (now (out .entry)) r (now (written .exit)) (now (table .entry)) (now (out .exit)) ⌝ }
+{
+    let answer = primal::list(table, out);
+    tell(answer, written)
+}
+
+#[no_mangle]
+pub extern "C" fn boltclover_run(
+    table: &mut Table,
+    tape: &[u8],
+    out: &mut [u8],
+    allowance: u32,
+    stop: &mut u16,
+    handled: &mut u32,
+    written: &mut usize,
+    unread: &mut usize,
+) -> u16
+    ensures { λ r. ⌜ Run allowance (now (table .entry)) (now (out .entry)) (now (tape .entry)) r (now (stop .exit)) (now (handled .exit)) (now (written .exit)) (now (unread .exit)) (now (table .exit)) (now (out .exit)) ⌝ }
+{
+    let mut number: u16 = 0;
+    let rest = primal::run(
+        table,
+        tape,
+        out,
+        allowance,
+        stop,
+        &mut number,
+        handled,
+        written,
+    );
+    *unread = rest.len();
+    number
+}

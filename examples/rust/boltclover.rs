@@ -1,0 +1,247 @@
+//! A safe wrapper of the static library. Each call takes what it changes by `&mut`, so that Rust rules out the overlaps that
+//! `include/boltclover.h` forbids. No dependency but `core`.
+#![no_std]
+
+/// A node's number; `Node::NONE` names none. Not to be mixed up with a vertex's.
+#[derive(Clone, Copy, PartialEq, Eq, Debug)]
+pub struct Node(pub u16);
+
+/// A vertex's number; `Vertex::NONE` names none.
+#[derive(Clone, Copy, PartialEq, Eq, Debug)]
+pub struct Vertex(pub u32);
+
+impl Node {
+    pub const NONE: Node = Node(u16::MAX);
+}
+
+impl Vertex {
+    pub const NONE: Vertex = Vertex(u32::MAX);
+}
+
+/// The numbers given back.
+#[derive(Clone, Copy, PartialEq, Eq, Debug)]
+pub enum Refusal {
+    NotSound = 1,
+    NoRecordRoom = 2,
+    NoSuchNode = 3,
+    NotOuter = 4,
+    SameNode = 5,
+    TouchOutside = 6,
+    NotGrowing = 7,
+    NoBlossomSlot = 8,
+    NoCommandRoom = 9,
+    NoListingRoom = 10,
+    NotExpandable = 11,
+    BadRecord = 12,
+    BadBegin = 13,
+}
+
+/// Why a run stopped.
+#[derive(Clone, Copy, PartialEq, Eq, Debug)]
+pub enum Stop {
+    TapeEmpty,
+    AllowanceUsed,
+    OutputFull,
+    BadRecord,
+}
+
+/// Two nodes that touch.
+#[derive(Clone, Copy, Debug)]
+pub struct Conflict {
+    pub node_1: Node,
+    pub node_2: Node,
+    pub touch_1: Node,
+    pub touch_2: Node,
+    pub vertex_1: Vertex,
+    pub vertex_2: Vertex,
+}
+
+/// A node that touches a virtual vertex.
+#[derive(Clone, Copy, Debug)]
+pub struct VirtualConflict {
+    pub node: Node,
+    pub touch: Node,
+    pub vertex: Vertex,
+    pub virtual_vertex: Vertex,
+}
+
+/// What a run hands out. `rest` is the unread part of the tape.
+#[derive(Clone, Copy, Debug)]
+pub struct Run<'tape> {
+    pub stop: Stop,
+    pub handled: u32,
+    pub written: usize,
+    pub rest: &'tape [u8],
+}
+
+pub const WORDS: usize = 2819;
+pub const COMMAND_ROOM: usize = 4096;
+pub const RUN_ROOM: usize = 4102;
+
+/// A table. It can only be had by making one, and only the calls change it.
+#[derive(Clone)]
+pub struct Table {
+    words: [u16; WORDS],
+}
+
+extern "C" {
+    fn boltclover_make(table: *mut u16, begin: u16) -> u16;
+    fn boltclover_reset(table: *mut u16) -> u16;
+    fn boltclover_sound(table: *const u16) -> u16;
+    fn boltclover_conflict(
+        table: *mut u16,
+        node_1: u16,
+        node_2: u16,
+        touch_1: u16,
+        touch_2: u16,
+        vertex_1: u32,
+        vertex_2: u32,
+        out: *mut u8,
+        room: usize,
+        written: *mut usize,
+    ) -> u16;
+    fn boltclover_virtual_conflict(
+        table: *mut u16,
+        node: u16,
+        touch: u16,
+        vertex: u32,
+        virtual_vertex: u32,
+        out: *mut u8,
+        room: usize,
+        written: *mut usize,
+    ) -> u16;
+    fn boltclover_expand(table: *mut u16, node: u16, out: *mut u8, room: usize, written: *mut usize) -> u16;
+    fn boltclover_list(table: *const u16, out: *mut u8, room: usize, written: *mut usize) -> u16;
+    fn boltclover_run(
+        table: *mut u16,
+        tape: *const u8,
+        length: usize,
+        out: *mut u8,
+        room: usize,
+        allowance: u32,
+        stop: *mut u16,
+        handled: *mut u32,
+        written: *mut usize,
+        unread: *mut usize,
+    ) -> u16;
+}
+
+fn refusal(number: u16) -> Refusal {
+    match number {
+        1 => Refusal::NotSound,
+        2 => Refusal::NoRecordRoom,
+        3 => Refusal::NoSuchNode,
+        4 => Refusal::NotOuter,
+        5 => Refusal::SameNode,
+        6 => Refusal::TouchOutside,
+        7 => Refusal::NotGrowing,
+        8 => Refusal::NoBlossomSlot,
+        9 => Refusal::NoCommandRoom,
+        10 => Refusal::NoListingRoom,
+        11 => Refusal::NotExpandable,
+        12 => Refusal::BadRecord,
+        13 => Refusal::BadBegin,
+        _ => unreachable!("no call gives another number"),
+    }
+}
+
+fn told<T>(number: u16, done: T) -> Result<T, Refusal> {
+    if number == 0 {
+        Ok(done)
+    } else {
+        Err(refusal(number))
+    }
+}
+
+impl Table {
+    /// A fresh table: slots below `begin`, 1 to 256, are for defects.
+    pub fn new(begin: u16) -> Result<Table, Refusal> {
+        let mut table = Table { words: [0; WORDS] };
+        let number = unsafe { boltclover_make(table.words.as_mut_ptr(), begin) };
+        told(number, table)
+    }
+
+    pub fn reset(&mut self) -> Result<(), Refusal> {
+        told(unsafe { boltclover_reset(self.words.as_mut_ptr()) }, ())
+    }
+
+    pub fn is_sound(&self) -> bool {
+        unsafe { boltclover_sound(self.words.as_ptr()) == 1 }
+    }
+
+    /// The commands, in the first bytes of `out`, which has at least `COMMAND_ROOM` bytes.
+    pub fn conflict<'out>(&mut self, c: Conflict, out: &'out mut [u8]) -> Result<&'out [u8], Refusal> {
+        let mut written = 0;
+        let number = unsafe {
+            boltclover_conflict(
+                self.words.as_mut_ptr(),
+                c.node_1.0,
+                c.node_2.0,
+                c.touch_1.0,
+                c.touch_2.0,
+                c.vertex_1.0,
+                c.vertex_2.0,
+                out.as_mut_ptr(),
+                out.len(),
+                &mut written,
+            )
+        };
+        told(number, &out[..written])
+    }
+
+    pub fn virtual_conflict<'out>(&mut self, c: VirtualConflict, out: &'out mut [u8]) -> Result<&'out [u8], Refusal> {
+        let mut written = 0;
+        let number = unsafe {
+            boltclover_virtual_conflict(
+                self.words.as_mut_ptr(),
+                c.node.0,
+                c.touch.0,
+                c.vertex.0,
+                c.virtual_vertex.0,
+                out.as_mut_ptr(),
+                out.len(),
+                &mut written,
+            )
+        };
+        told(number, &out[..written])
+    }
+
+    pub fn expand<'out>(&mut self, node: Node, out: &'out mut [u8]) -> Result<&'out [u8], Refusal> {
+        let mut written = 0;
+        let number = unsafe { boltclover_expand(self.words.as_mut_ptr(), node.0, out.as_mut_ptr(), out.len(), &mut written) };
+        told(number, &out[..written])
+    }
+
+    /// The pairs, in the first bytes of `out`, which has at least 16 bytes for each present defect.
+    pub fn list<'out>(&self, out: &'out mut [u8]) -> Result<&'out [u8], Refusal> {
+        let mut written = 0;
+        let number = unsafe { boltclover_list(self.words.as_ptr(), out.as_mut_ptr(), out.len(), &mut written) };
+        told(number, &out[..written])
+    }
+
+    /// Handles the requests of a tape, at most `allowance` of them. The answers are the first `written` bytes of `out`.
+    pub fn run<'tape>(&mut self, tape: &'tape [u8], out: &mut [u8], allowance: u32) -> Result<Run<'tape>, Refusal> {
+        let (mut stop, mut handled, mut written, mut unread) = (0, 0, 0, 0);
+        let number = unsafe {
+            boltclover_run(
+                self.words.as_mut_ptr(),
+                tape.as_ptr(),
+                tape.len(),
+                out.as_mut_ptr(),
+                out.len(),
+                allowance,
+                &mut stop,
+                &mut handled,
+                &mut written,
+                &mut unread,
+            )
+        };
+        let stop = match stop {
+            0 => Stop::TapeEmpty,
+            1 => Stop::AllowanceUsed,
+            2 => Stop::OutputFull,
+            _ => Stop::BadRecord,
+        };
+        told(number, Run { stop, handled, written, rest: &tape[tape.len() - unread..] })
+    }
+}

@@ -1,0 +1,106 @@
+/*
+ * Boltclover: the primal half of a minimum-weight perfect matching decoder, for C, C++ and Rust on x86-64 Linux.
+ * Built by `rt staticlib primal_c` as target/staticlib/libprimal_c.a. The library has no memory of its own: it allocates
+ * nothing, keeps nothing between calls, reads and writes no file, and wants one function of the C library, memset. Its calls
+ * recurse as deep as trees and blossoms are; the most stack seen is 25,208 bytes (a tree of 255 nodes in one line, augmented).
+ *
+ * What is lent. Every pointer is lent for the call alone. None may be NULL, also where its length is 0. A table is
+ * BOLTCLOVER_TABLE_WORDS words, aligned as uint16_t, in any memory of the caller's (static, stack, heap). The objects of one
+ * call must not overlap. Calls on different tables may run at the same time; calls on one table may not.
+ *
+ * What a call changes. An accepted call changes the table, *written and the first *written bytes of out; later bytes of out
+ * stay as they were. A refused call changes nothing but *written, which it sets to 0: the table and every byte of out stay as
+ * they were. The old contents of *written, *stop, *handled and *unread are never read.
+ *
+ * What is asked of the caller. Of the values nothing: every table, number, tape and length may be passed, and every call ends.
+ * A table that was not made, or that something else wrote into, is found out by each call and refused (number 1).
+ *
+ * Bytes are records, little-endian: a two-byte length (of what follows it), a two-byte kind, fields. A node has two bytes, a
+ * vertex four.
+ *   requests   1 conflict (node_1, node_2, touch_1, touch_2, vertex_1, vertex_2; length 18)
+ *              2 virtual conflict (node, touch, vertex, virtual vertex; 14)   3 expansion (node; 4)   4 reset (2)   5 list (2)
+ *   commands  16 speed (node, then 0 Stay, 1 Grow, 2 Shrink; 6)   17 create (node; 4)   18 expand (node; 4)
+ *   entries   20 pair (node, peer, through, peer through; 14)   21 virtual pair (node, through, virtual vertex; 12)
+ *   end       19 (0 or the refusal's number; 4), written by boltclover_run alone
+ */
+#ifndef BOLTCLOVER_H
+#define BOLTCLOVER_H
+
+#include <stddef.h>
+#include <stdint.h>
+
+#ifdef __cplusplus
+extern "C" {
+#endif
+
+#define BOLTCLOVER_TABLE_WORDS 2819 /* 256 slots of eleven words, then begin and two counts */
+#define BOLTCLOVER_COMMAND_ROOM 4096 /* bytes of out that conflict, virtual_conflict and expand want: 512 commands of 8 bytes */
+#define BOLTCLOVER_LISTING_ROOM(defects) ((size_t)16 * (defects)) /* bytes of out that list wants; 4096 is always enough */
+#define BOLTCLOVER_RUN_ROOM 4102 /* bytes of out that run wants left before it handles a record */
+
+#define BOLTCLOVER_NO_NODE 65535u
+#define BOLTCLOVER_NO_VERTEX 4294967295u
+
+/* The numbers given back. Each call gives the first that applies, in the order that stands beside the call. */
+enum {
+    BOLTCLOVER_DONE = 0,
+    BOLTCLOVER_NOT_SOUND = 1,         /* the table is not sound */
+    BOLTCLOVER_NO_RECORD_ROOM = 2,    /* given by the Rattle call that writes one record; by no call here */
+    BOLTCLOVER_NO_SUCH_NODE = 3,      /* a named node is 256 or more, or an empty blossom slot; or a vertex is none */
+    BOLTCLOVER_NOT_OUTER = 4,         /* a named node is inside a blossom */
+    BOLTCLOVER_SAME_NODE = 5,         /* both nodes are one */
+    BOLTCLOVER_TOUCH_OUTSIDE = 6,     /* a touch is not a defect inside its node */
+    BOLTCLOVER_NOT_GROWING = 7,       /* a node shrinks, or no named node grows */
+    BOLTCLOVER_NO_BLOSSOM_SLOT = 8,   /* a blossom is to be made and every blossom slot has been given out */
+    BOLTCLOVER_NO_COMMAND_ROOM = 9,   /* room is below BOLTCLOVER_COMMAND_ROOM */
+    BOLTCLOVER_NO_LISTING_ROOM = 10,  /* room is below BOLTCLOVER_LISTING_ROOM(present defects) */
+    BOLTCLOVER_NOT_EXPANDABLE = 11,   /* the node is not a present blossom that shrinks */
+    BOLTCLOVER_BAD_RECORD = 12,       /* given by the Rattle call that reads one record; here a run stops by 3 */
+    BOLTCLOVER_BAD_BEGIN = 13         /* begin is not 1 to 256 */
+};
+
+/* Why a run stopped. The first that applies, asked before each record. */
+enum {
+    BOLTCLOVER_TAPE_EMPTY = 0,
+    BOLTCLOVER_ALLOWANCE_USED = 1,
+    BOLTCLOVER_OUTPUT_FULL = 2,
+    BOLTCLOVER_STOPPED_AT_BAD_RECORD = 3
+};
+
+/* Makes a fresh table: slots 0 to begin - 1 are for defects, begin to 255 for blossoms. The old words are not read.
+   0 or 13; after 13 the words are as they were. */
+uint16_t boltclover_make(uint16_t *table, uint16_t begin);
+
+/* Empties every slot and zeroes both counts; begin stays. 0 or 1. */
+uint16_t boltclover_reset(uint16_t *table);
+
+/* 1 if the table is sound, 0 if not. */
+uint16_t boltclover_sound(const uint16_t *table);
+
+/* Two nodes touch: node_1 by its defect touch_1 at vertex_1, node_2 by touch_2 at vertex_2. A defect that the table has not
+   seen is loaded first. Commands for the dual half go to out. 0, or in this order 1, 9, 3, 4, 5, 6, 7, 8. */
+uint16_t boltclover_conflict(uint16_t *table, uint16_t node_1, uint16_t node_2, uint16_t touch_1, uint16_t touch_2,
+                             uint32_t vertex_1, uint32_t vertex_2, uint8_t *out, size_t room, size_t *written);
+
+/* A node touches a virtual vertex. 0, or in this order 1, 9, 3, 4, 6, 7. */
+uint16_t boltclover_virtual_conflict(uint16_t *table, uint16_t node, uint16_t touch, uint32_t vertex, uint32_t virtual_vertex,
+                                     uint8_t *out, size_t room, size_t *written);
+
+/* A shrinking blossom is taken apart. 0, or in this order 1, 9, 11. */
+uint16_t boltclover_expand(uint16_t *table, uint16_t node, uint8_t *out, size_t room, size_t *written);
+
+/* Lists every matched pair of defects, those inside blossoms too, as pair and virtual pair records. 0, or 1, 10. */
+uint16_t boltclover_list(const uint16_t *table, uint8_t *out, size_t room, size_t *written);
+
+/* Handles the requests of a tape, at most allowance of them. Each writes its records and an end record with 0 or its refusal;
+   a refused request does not stop the run. Gives *stop, the requests handled, the bytes written, and the bytes left unread:
+   the last *unread bytes of the tape. 0; or 1 on a table that is not sound, with *stop, *handled and *written 0 and *unread
+   the whole length. */
+uint16_t boltclover_run(uint16_t *table, const uint8_t *tape, size_t length, uint8_t *out, size_t room, uint32_t allowance,
+                        uint16_t *stop, uint32_t *handled, size_t *written, size_t *unread);
+
+#ifdef __cplusplus
+}
+#endif
+
+#endif

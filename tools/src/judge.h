@@ -1,0 +1,45 @@
+/* A second reading of document 01: soundness, the numbers given back, and which row of the tables a request takes. Written for
+   this comparison, straight from the sentences, in the simplest way and without regard to time. */
+#ifndef JUDGE_H
+#define JUDGE_H
+
+#include "view.h"
+
+int is_sound(const View *t);
+int broken_rule(const View *t); /* 0, or the first of S1 to S8 that the table breaks */
+int present_defects(const View *t);
+/* 0, or the first number that applies, in 01's order for the request's kind */
+int refusal_of(const View *t, const Request *r, size_t room);
+
+typedef enum {
+    FREE_FREE,
+    FREE_PEER,
+    FREE_VIRTUAL,
+    FREE_TREE,
+    TREE_PEER,
+    TREE_VIRTUAL,
+    TWO_TREES,
+    ONE_TREE,
+    VIRTUAL_FREE,
+    VIRTUAL_TREE,
+    EXPAND_EVEN,
+    EXPAND_ODD,
+    EXPAND_SAME, /* P and C are one node */
+    RESETTING,
+    LISTING,
+    ROWS
+} Row;
+
+extern const char *const row_names[ROWS];
+
+/* the row of a request that is accepted */
+Row row_of(const View *t, const Request *r);
+
+/* what a node is, read as 01's tables name it; an empty defect slot reads as the free node that it would become */
+typedef enum { NO_PLACE, FREE, WITH_PEER, WITH_VIRTUAL, PLUS, MINUS, INSIDE } Place;
+Place place_of(const View *t, uint32_t n);
+
+int inside(const View *t, uint32_t n, uint32_t x);
+uint32_t root_of(const View *t, uint32_t n); /* of a tree node of a sound table */
+
+#endif

@@ -1,0 +1,10 @@
+/* The port: any request by the library's calls. */
+#ifndef PORT_H
+#define PORT_H
+
+#include "../../include/boltclover.h"
+#include "view.h"
+
+uint16_t call_port(uint16_t *words, const Request *r, uint8_t *out, size_t room, size_t *written);
+
+#endif

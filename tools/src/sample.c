@@ -1,0 +1,68 @@
+/* Writes tapes and the original's answers to them, for the crate `replay`.
+     sample ORIGINAL DIR
+   Each tape holds requests that 01 accepts, of one plan and one begin, with resets between shots. DIR gets NAME.tape and
+   NAME.answers; the words for the crate's `args` go to standard output. */
+#include <stdio.h>
+#include <stdlib.h>
+#include <string.h>
+
+#include "judge.h"
+#include "original.h"
+#include "port.h"
+#include "shots.h"
+#include "view.h"
+
+enum { TAPES = 20, MOST = 59000 }; /* the bytes of a tape and of its answers: a run in 65,536 bytes then ends with the tape */
+
+/* The port only carries the table along, so that the next requests can be made up; what it says is thrown away but for its size. */
+static void make_tape(Bytes *tape, Shot first) {
+    static View t;
+    uint16_t words[WORDS];
+    uint8_t out[8192], record[LONGEST_REQUEST];
+    size_t written, answers = 0;
+    Shot shot = first;
+    boltclover_make(words, shot.begin);
+    for (uint32_t step = 1; tape->length < MOST && answers < MOST - 4096; step++) {
+        read_view(&t, words);
+        Request r = chance(&shot.dice, 1, 10) ? wild_request(&shot, &t) : next_request(&shot, &t);
+        if (step % first.length == 0) {
+            Dice dice = shot.dice;
+            r = (Request){.kind = RESET}, shot = first, shot.dice = dice;
+        }
+        if (refusal_of(&t, &r, sizeof out) || call_port(words, &r, out, sizeof out, &written)) continue;
+        append(tape, record, write_request(record, &r));
+        answers += written + 6;
+    }
+}
+
+static void save(const char *folder, const char *name, const char *ending, const Bytes *bytes) {
+    char path[1000];
+    snprintf(path, sizeof path, "%s/%s.%s", folder, name, ending);
+    FILE *file = fopen(path, "wb");
+    if (!file || fwrite(bytes->bytes, 1, bytes->length, file) != bytes->length || fclose(file)) {
+        perror(path);
+        exit(2);
+    }
+}
+
+int main(int argc, char **argv) {
+    if (argc < 3) return fprintf(stderr, "sample ORIGINAL DIR\n"), 2;
+    static Bytes tape, answers;
+    uint32_t number = 256; /* past the short shots */
+    for (int i = 0; i < TAPES; i++) {
+        Shot shot;
+        do shot = new_shot(7, number++);
+        while (shot.plan != (Plan)(i % PLANS));
+        tape.length = answers.length = 0;
+        make_tape(&tape, shot);
+        char name[40], begin[8];
+        snprintf(name, sizeof name, "%s-%d", plan_names[shot.plan], i / PLANS + 1);
+        for (char *c = name; *c; c++) *c = *c == ' ' ? '-' : *c;
+        snprintf(begin, sizeof begin, "%u", shot.begin);
+        if (run_program(argv[1], begin, &tape, &answers)) return fprintf(stderr, "the original refuses %s\n", name), 1;
+        save(argv[2], name, "tape", &tape);
+        save(argv[2], name, "answers", &answers);
+        printf("%03u\n%s.tape\n%s.answers\n", shot.begin, name, name);
+    }
+    return 0;
+}
