@@ -1,5 +1,5 @@
 /*
- * Boltclover: the primal half of a minimum-weight perfect matching decoder, for C, C++ and Rust on x86-64 Linux.
+ * Boltclover: the primal half of a decoder that pairs detection events by Edmonds's blossom method, for C, C++ and Rust on x86-64 Linux.
  * Built by `rt staticlib primal_c` as target/staticlib/libprimal_c.a. The library has no memory of its own: it allocates
  * nothing, keeps nothing between calls, reads and writes no file, and wants one function of the C library, memset. Its calls
  * recurse as deep as trees and blossoms are; the most stack seen is 25,208 bytes (a tree of 255 nodes in one line, augmented).

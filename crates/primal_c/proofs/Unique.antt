@@ -21,7 +21,8 @@ use Rattle.rules.specs.Calls.{actOf, verdict}
 use Rattle.rules.specs.Run.{Ran, unsound, ran, runTape}
 use Rattle.handling.specs.Handled.{Outcome}
 use Rattle.running.specs.Tape.{HandsOut}
-use Rattle.promises.proofs.Unique.{Lent, make-once, call-once, run-once}
+use Rattle.promises.specs.Lent.{Lent}
+use Rattle.promises.proofs.Unique.{make-once, call-once, run-once}
 use Rattle.primal_c.specs.Numbered.{Numbered, Called, WasReset, WasMade, RanTape, Run}
 
 -- ---- requests
