@@ -4,7 +4,7 @@
 -- A match is two commands. Augmenting matches each − node of the tree with its child, and each − node on the way from the node
 -- to the root once more, with its parent: at most four commands a − node. A − node has a child of its own, and a root is neither
 -- a − node nor such a child; so among 256 nodes there are at most 127 − nodes, in one tree or in two. With the match of the two
--- nodes named that is 4 · 127 + 2 = 510, two below the 512 of document 01; `MostCommands` has a conflict that gives 510.
+-- nodes named that is 4 · 127 + 2 = 510, two below the 512 of document 01; `worked/proofs/MostCommands` has a conflict that gives 510.
 use mathlib.Core.Path.{_≡_}
 use mathlib.Core.List.{List, [], _∷_, _++_}
 use Prim.Native.Nat.{ℕ, _+_, _-_, _≤_}

@@ -2,9 +2,6 @@ pub mod Runs
 pub mod Script
 pub mod Marked
 pub mod OwnExamples
-pub mod RefusalExamples
-pub mod SoundExamples
-pub mod RunExamples
 pub mod Reflect
 pub mod ReflectSlots
 pub mod Members
@@ -83,7 +80,6 @@ pub mod Serving
 pub mod ClimbBudgets
 pub mod BudgetsSuffice
 pub mod Kept
-pub mod NamedExamples
 pub mod CountLaws
 pub mod RestOfRing
 pub mod InsideCounts
@@ -112,7 +108,6 @@ pub mod TwoRequests
 pub mod StillApart
 pub mod Reordering
 pub mod AnyOrder
-pub mod OrderExamples
 pub mod MinusNodes
 pub mod SubtreeCommands
 pub mod AugmentCommands
@@ -122,5 +117,4 @@ pub mod CommandRecords
 pub mod CommandsAlone
 pub mod CommandBytes
 pub mod AnsweredCommands
-pub mod MostCommands
 pub mod CommandsFit

@@ -1,0 +1,6 @@
+pub mod RefusalExamples
+pub mod SoundExamples
+pub mod RunExamples
+pub mod NamedExamples
+pub mod OrderExamples
+pub mod MostCommands
