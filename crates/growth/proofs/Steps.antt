@@ -5,6 +5,7 @@ use Prim.Native.Nat.{ℕ, suc, _+_, _≤_, _<_, max}
 use native.Mathlib.Omega.{arith}
 use native.Mathlib.Numerals.{add-one}
 use borrow.Author.Tests.{lt-ltb, le-ltb}
+use Rattle.slot.specs.declared.state.State.the-variants as S
 use Rattle.slot.specs.Number.{none}
 use Rattle.slot.specs.Slot.{Link, Slot, newNode}
 use Rattle.table.specs.Table.{Table, at, put}
@@ -15,7 +16,7 @@ use Rattle.record.specs.declared.answer.Speed.the-variants as P
 use Rattle.record.specs.Records.{answerBytes}
 use Rattle.record.specs.Writing.{Out, written}
 use Rattle.rules.specs.Act.{World, run, alter, choose, speed}
-use Rattle.rules.specs.Slots.{withFirstChild}
+use Rattle.rules.specs.Slots.{withFirstChild, shaped}
 use Rattle.rules.specs.Trees.{loaded}
 use Rattle.rules.specs.Conflict.{leafBelow, minusBelow, rootAbove, growTree, hangPair}
 use Rattle.rules.proofs.Runs.{world, runs, choose-yes, choose-no}
@@ -45,6 +46,16 @@ module _ (t : Table) (n : ℕ) where
       let h′ : n < t .begin = rw e at h in
       let u′ : d ≡ t .defects = u ∙ ap (λ (z : Table). z .defects) r in
       x ∙ rw (lt-ltb n (t .begin) h′, p, v, u′, r, q, add-one)
+
+-- child and link are what stood in the slot
+pub leaf-step :
+    (t u : Table) (n parent child : ℕ) (l : Link)
+    → child ≡ at t n .firstChild
+    → l ≡ at t n .link
+    → u ≡ alter n (shaped S.Grow parent child none l) t
+    → u ≡ alter n (leafBelow parent) t
+unfolding alter
+leaf-step t u n parent child l e f h = h ∙ rw (e, f)
 
 pub grow-step :
     (t t₁ t₂ t₃ : Table) (o o₁ o₂ o₃ : Out) (root matched peer : ℕ) (l : Link)

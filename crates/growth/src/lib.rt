@@ -36,29 +36,6 @@ pub fn load(t: &mut Table, n: Node)
     counts::set_count_defects(t, defects);
 }
 
-fn set_first_child(t: &mut Table, n: Node, first_child: Node)
-    ensures { λ _. ⌜ tableOf (now (t .exit)) ≡ alter (n .0) (withFirstChild («first_child» .0)) (tableOf (now (t .entry))) ⌝ }
-{
-    let s = table::get(t, n);
-    let state = s.state;
-    let parent = s.parent;
-    let sibling = s.sibling;
-    let ring = s.ring;
-    let link = s.link;
-    table::store(
-        t,
-        n,
-        Slot {
-            state,
-            parent,
-            first_child,
-            sibling,
-            ring,
-            link,
-        },
-    );
-}
-
 fn set_root(t: &mut Table, n: Node, first_child: Node)
     ensures { λ _. ⌜ tableOf (now (t .exit)) ≡ alter (n .0) (rootAbove («first_child» .0)) (tableOf (now (t .entry))) ⌝ }
 {
@@ -84,39 +61,22 @@ fn set_root(t: &mut Table, n: Node, first_child: Node)
 fn set_minus(t: &mut Table, n: Node, parent: Node, first_child: Node, sibling: Node, link: Link)
     ensures { λ _. ⌜ tableOf (now (t .exit)) ≡ alter (n .0) (minusBelow (parent .0) («first_child» .0) (sibling .0) (linkOf link)) (tableOf (now (t .entry))) ⌝ }
 {
-    let ring = table::get(t, n).ring;
-    table::store(
-        t,
-        n,
-        Slot {
-            state: State::Shrink,
-            parent,
-            first_child,
-            sibling,
-            ring,
-            link,
-        },
-    );
+    altering::shape(t, n, State::Shrink, parent, first_child, sibling, link);
 }
 
 fn set_leaf(t: &mut Table, n: Node, parent: Node)
     ensures { λ _. ⌜ tableOf (now (t .exit)) ≡ alter (n .0) (leafBelow (parent .0)) (tableOf (now (t .entry))) ⌝ }
 {
-    let s = table::get(t, n);
-    let first_child = s.first_child;
-    let ring = s.ring;
-    let link = s.link;
-    table::store(
+    let first_child = nodes::field::first_child(t, n);
+    let link = nodes::field::link(t, n);
+    altering::shape(
         t,
         n,
-        Slot {
-            state: State::Grow,
-            parent,
-            first_child,
-            sibling: Node(slot::number::NO_NODE),
-            ring,
-            link,
-        },
+        State::Grow,
+        parent,
+        first_child,
+        Node(slot::number::NO_NODE),
+        link,
     );
 }
 
@@ -156,7 +116,7 @@ pub fn hang_pair(
     let p = writing::emit(out, pos, Record::Speed(matched, Speed::Shrink));
     let end = writing::emit(out, p, Record::Speed(peer, Speed::Grow));
     let first_child = nodes::field::first_child(t, plus);
-    set_first_child(t, plus, matched);
+    altering::set_first_child(t, plus, matched);
     set_minus(t, matched, plus, peer, first_child, link);
     set_leaf(t, peer, matched);
     end

@@ -18,7 +18,8 @@ use Rattle.nodes.specs.declared.place.Place.{Place}
 use Rattle.nodes.specs.declared.place.Place.the-variants.{Free, Paired, Virtual, Tree}
 use Rattle.nodes.specs.Place.{place}
 use Rattle.rules.specs.Listing.{pairEntry, virtualEntry, pairListed, levelsListed, ringListed, matchedListed, slotListed, slotsListed, nothing}
-use Rattle.rules.proofs.Runs.{writeAll-append, choose-yes, choose-no}
+use Rattle.record.proofs.Written.{writeAll-append}
+use Rattle.rules.proofs.Runs.{choose-yes, choose-no}
 use Rattle.listing.specs.Inside.{insideListed}
 
 -- what is written by nothing

@@ -39,24 +39,7 @@ fn match_siblings(t: &mut Table, out: &mut [u8], pos: usize, n: Node, left: usiz
 fn cut_children(t: &mut Table, n: Node)
     ensures { λ _. ⌜ tableOf (now (t .exit)) ≡ alter (n .0) (withFirstChild none) (tableOf (now (t .entry))) ⌝ }
 {
-    let s = table::get(t, n);
-    let state = s.state;
-    let parent = s.parent;
-    let sibling = s.sibling;
-    let ring = s.ring;
-    let link = s.link;
-    table::store(
-        t,
-        n,
-        Slot {
-            state,
-            parent,
-            first_child: Node(slot::number::NO_NODE),
-            sibling,
-            ring,
-            link,
-        },
-    );
+    altering::set_first_child(t, n, Node(slot::number::NO_NODE));
 }
 
 // The + node n keeps its place; its children go.

@@ -3,7 +3,6 @@ use record::Record;
 use record::Speed;
 use slot::Link;
 use slot::Node;
-use slot::Slot;
 use slot::State;
 use slot::Vertex;
 use table::Table;
@@ -17,18 +16,14 @@ ghost use Rattle.rules.specs.Matching.{matchedTo, temporaryMatch, temporaryMatc
 fn settle(t: &mut Table, n: Node, peer: Node, link: Link)
     ensures { λ _. ⌜ tableOf (now (t .exit)) ≡ alter (n .0) (matchedTo (peer .0) (linkOf link)) (tableOf (now (t .entry))) ⌝ }
 {
-    let ring = table::get(t, n).ring;
-    table::store(
+    altering::shape(
         t,
         n,
-        Slot {
-            state: State::Stay,
-            parent: Node(slot::number::NO_NODE),
-            first_child: Node(slot::number::NO_NODE),
-            sibling: peer,
-            ring,
-            link,
-        },
+        State::Stay,
+        Node(slot::number::NO_NODE),
+        Node(slot::number::NO_NODE),
+        peer,
+        link,
     );
 }
 

@@ -9,17 +9,13 @@ use Rattle.slot.specs.Slot.{Slot}
 use Rattle.table.specs.Table.{Table, at}
 use Rattle.record.specs.declared.answer.Record.{Record}
 use Rattle.record.specs.Records.{answerBytes}
+use Rattle.record.proofs.Written.{writeAll-append}
 use Rattle.record.specs.Writing.{Out, written, writeAll}
 use Rattle.rules.specs.Act.{Act, World, run, skip, say, change, _then_, look, read, choose}
 use Rattle.rules.specs.Matching.{unlessNone}
 
 abbrev pub world : Table → Out → World
 world t o = record { table = t; out = o }
-
-pub writeAll-append : (o : Out) (xs ys : List Record) → writeAll o (xs ++ ys) ≡ writeAll (writeAll o xs) ys
-unfolding writeAll
-writeAll-append o [] ys = refl
-writeAll-append o (r ∷ xs) ys = writeAll-append (written o (answerBytes r)) xs ys
 
 module _ (w : World) where
   pub run-skip : run w skip ≡ w

@@ -23,7 +23,8 @@ use Rattle.table.proofs.WordsOfSlots.{slots-length}
 use Rattle.table.proofs.Laws.{Full}
 use Rattle.rules.proofs.Reflect.{test-true}
 use Rattle.rules.proofs.Kept.{served-keeps-sound}
-use Rattle.rules.proofs.Runs.{world, writeAll-append, run-skip}
+use Rattle.record.proofs.Written.{writeAll-append}
+use Rattle.rules.proofs.Runs.{world, run-skip}
 use Rattle.rules.specs.Sound.{sound}
 use Rattle.handling.specs.Handled.{Outcome, laterVerdict}
 use Rattle.handling.proofs.Verdicts.{sound-verdict}

@@ -1,11 +1,11 @@
-use Rattle.rules.specs.Act.{alter}
+use Rattle.growth.proofs.Steps.{leaf-step}
 use borrow.Author.Needs.{needs}
 use Rattle.growth.proofs.set_leaf.Statement.{statement}
 use Rattle.growth.proofs.set_leaf.Tie as tie
 
 pub set-leaf-spec : {M : Type 1} → statement M
-unfolding alter
 set-leaf-spec = tie.close (tie.spec
     (λ c κs. search needs)
     (λ c κs. search needs)
-    (λ c. (cc)))
+    (λ c κs. search needs)
+    (λ c. leaf-step _ _ _ _ _ _ (c .before .before .before .before .first-child .ensures) (c .before .before .link .ensures) (c .shape .ensures)))
