@@ -1,27 +1,24 @@
 -- The outcome of each call, by the way that the code took through its refusals.
-use mathlib.Core.Path.{_≡_, refl, sym, ap, _∙_}
-use mathlib.Core.Bool.{Bool, true, false}
+use mathlib.Core.Path.{_≡_, refl, sym}
 use mathlib.Core.List.{List}
-use Prim.Native.Nat.{ℕ, zero, suc, _+_, _-_, _*_, _≤_, _<_}
+use Prim.Native.Nat.{ℕ, zero, suc, _-_, _*_, _≤_, _<_}
 use native.Mathlib.Omega.{arith}
 use borrow.Author.Tests.{lt-ltb, le-ltb}
 use Rattle.lists.specs.Choice.{pick}
 use Rattle.table.specs.Table.{Table}
 use Rattle.table.specs.Words.{tableOf}
 use Rattle.counts.specs.Making.{emptied}
-use Rattle.refusal.specs.declared.Answer.{Answer}
 use Rattle.refusal.specs.declared.Answer.the-variants as A
 use Rattle.refusal.specs.declared.Verdict.{Verdict}
 use Rattle.refusal.specs.declared.Verdict.the-variants as W
 use Rattle.refusal.specs.declared.Refusal.{Refusal}
 use Rattle.refusal.specs.declared.Refusal.the-variants.{NoCommandRoom, NoListingRoom}
-use Rattle.record.specs.declared.request.Request.{Request}
 use Rattle.record.specs.declared.request.Request.the-variants as Q
 use Rattle.record.specs.declared.request.Conflict.{Conflict}
 use Rattle.record.specs.declared.request.VirtualConflict.{VirtualConflict}
 use Rattle.record.specs.declared.request.Expansion.{Expansion}
-use Rattle.record.specs.Writing.{Out, outOf, writeAll}
-use Rattle.rules.specs.Act.{Act, World, worldOf, run, change}
+use Rattle.record.specs.Writing.{outOf, writeAll}
+use Rattle.rules.specs.Act.{Act, worldOf, run, change}
 use Rattle.rules.specs.Listing.{listing}
 use Rattle.rules.specs.Refusals.{firstOf, presentDefects, defectAt, defectsBelow, lacksCommandRoom, conflictNodeChecks, virtualNodeChecks, expansionNodeChecks}
 use Rattle.rules.specs.Calls.{list}

@@ -17,7 +17,7 @@ use Rattle.refusal.specs.declared.Verdict.the-variants as W
 use Rattle.refusal.specs.Refusal.{answerWritten}
 use Rattle.record.specs.declared.request.Request.{Request}
 use Rattle.record.specs.Writing.{outOf, writeAll}
-use Rattle.rules.specs.Act.{Act, World, worldOf, run}
+use Rattle.rules.specs.Act.{World, worldOf, run}
 use Rattle.rules.specs.Sound.{sound}
 use Rattle.rules.specs.Calls.{actOf, verdict, answered}
 use Rattle.rules.proofs.Kept.{answered-keeps-sound}

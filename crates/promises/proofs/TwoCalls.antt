@@ -1,5 +1,5 @@
 -- Two calls in either order: what each of the four calls leaves.
-use mathlib.Core.Path.{_≡_, refl, ap, sym, _∙_}
+use mathlib.Core.Path.{_≡_, ap, sym, _∙_}
 use mathlib.Core.List.{List}
 use Prim.Native.Nat.{ℕ}
 use lib.Dec.{T}
@@ -16,7 +16,6 @@ use Rattle.record.specs.Writing.{Out, outOf, writeAll}
 use Rattle.rules.specs.Sound.{sound}
 use Rattle.rules.specs.Calls.{actOf, verdict}
 use Rattle.rules.proofs.AnyOrder.{either-order-table, r-commands, q-commands, r-still-accepted, q-still-accepted}
-use Rattle.promises.specs.Lent.{Lent}
 use Rattle.promises.specs.InOrder.{Independent, InOrder}
 use Rattle.promises.proofs.Accepted.{Done, done, accepted-sound, act-sound}
 use Rattle.promises.proofs.Determining.{same-words}

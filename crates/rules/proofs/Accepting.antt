@@ -1,133 +1,51 @@
--- What an accepted conflict and an accepted virtual conflict say of the nodes that they name, and so that they keep a sound table
--- sound.
+-- An accepted conflict and an accepted virtual conflict keep a sound table sound.
 use mathlib.Core.Path.{_≡_, refl, ap, ap₂, sym, _∙_}
 use mathlib.Core.Logic.{_≢_, _⊎_, inl, inr}
-use mathlib.Core.Bool.{Bool, true, false, not, _&&_, _||_}
-use mathlib.Core.List.{List, [], _∷_}
+use mathlib.Core.Bool.{Bool, true, false, not, _&&_}
 use Prim.Native.Nat.{ℕ, zero, suc, _+_, _≤_}
 use native.Mathlib.Omega.{arith}
 use lib.Dec.{T, eqb, ltb}
 use Rattle.lists.specs.Choice.{pick}
 use Rattle.slot.specs.declared.number.Node.{Node}
 use Rattle.slot.specs.declared.state.State.the-variants as S
-use Rattle.slot.specs.State.{isOuter, isPresent}
-use Rattle.slot.specs.Number.{none, noVertex}
+use Rattle.slot.specs.State.{isPresent}
+use Rattle.slot.specs.Number.{none}
 use Rattle.slot.specs.Slot.{Slot, newNode}
 use Rattle.table.specs.Table.{Table, at}
-use Rattle.nodes.specs.Nodes.{isDefect}
 use Rattle.nodes.specs.Climb.{inside}
 use Rattle.nodes.specs.declared.place.Place.the-variants as P
 use Rattle.nodes.specs.Place.{inTree, place}
-use Rattle.refusal.specs.declared.Refusal.{Refusal}
 use Rattle.record.specs.declared.request.Conflict.{Conflict}
 use Rattle.record.specs.declared.request.VirtualConflict.{VirtualConflict}
 use Rattle.record.specs.declared.request.Request.the-variants as Q
 use Rattle.rules.specs.Act.{change, _then_, look}
 use Rattle.rules.specs.Slots.{isNone, isSome, up}
-use Rattle.rules.specs.Sound.{isDefectInside}
 use Rattle.rules.specs.Trees.{isUnloaded, loaded, seen, rootWithin, sameTree}
 use Rattle.rules.specs.Matching.{temporaryMatchVirtual}
 use Rattle.rules.specs.Conflict.{conflictLink, blossomInTree, resolved, conflict, freed, virtualConflict}
 use Rattle.rules.specs.Blossom.{lacksBlossomSlot}
-use Rattle.refusal.specs.declared.Verdict.{Verdict}
 use Rattle.refusal.specs.declared.Verdict.the-variants as W
-use Rattle.rules.specs.Refusals.{Check, firstOf, conflictChecks, virtualChecks, isNotOuter, isOutside, isMinusNode, isGrowing, isNoNode, makesBlossom, isNoVertex, conflictNodeChecks, virtualNodeChecks}
-use borrow.Author.Tests.{eqb-false}
+use Rattle.rules.specs.Refusals.{makesBlossom}
 use Rattle.rules.specs.Calls.{verdict}
 use Rattle.rules.specs.FactsOfBlossoms.{DefectInside}
-use Rattle.rules.proofs.Reflect.{and→, →and, tests, not-eqb↔, same-or-not, test-case, test-true, test-false, not↔}
-use Rattle.rules.proofs.ReflectSlots.{grow↔, shrink↔, grow-shrink}
-use Rattle.rules.proofs.Climbing.{inside→}
+use Rattle.rules.proofs.Reflect.{→and, tests, same-or-not, test-case, test-true, test-false, not↔}
+use Rattle.rules.proofs.ReflectSlots.{grow-shrink}
+use Rattle.rules.proofs.AcceptedRequests.{no-test, Acceptable, acceptable, acceptable-virtual}
 use Rattle.rules.proofs.Renewing.{Whole, Kept, kept-then}
 use Rattle.rules.proofs.Matches.{RightLink, right-kept}
 use Rattle.rules.proofs.Loading.{Loaded, unloaded→, load-does}
 use Rattle.rules.proofs.Resolving.{OneTree, spot, resolved-whole, freed-whole}
 
--- ---- "The first that applies is given": none applies
-
-passed : (b : Bool) (r : Refusal) (v : Verdict) → pick b (W.Refused r) v ≡ W.Accepted → (b ≡ false) × (v ≡ W.Accepted)
-passed true r v e = let z : _≡_ {A = ℕ} 0 1 = cc in absurd (omega arith)
-passed false r v e = (refl, e)
-
--- each test in turn
-abbrev AllPassed : List Check → Type 0
-AllPassed [] = Unit {0}
-AllPassed (c ∷ cs) = (c .applies ≡ false) × AllPassed cs
-
-all-passed : (cs : List Check) → firstOf cs ≡ W.Accepted → AllPassed cs
-all-passed [] e = tt
-all-passed (c ∷ cs) e = let r = passed (c .applies) (c .refusal) (firstOf cs) e in (r .0, all-passed cs (r .1))
-
-or-no : (a b : Bool) → (a || b) ≡ false → (a ≡ false) × (b ≡ false)
-or-no true b e = let z : _≡_ {A = ℕ} 0 1 = cc in absurd (omega arith)
-or-no false b e = (refl, e)
-
-not-no : (b : Bool) → not b ≡ false → T b
-not-no true e = tt
-not-no false e = let z : _≡_ {A = ℕ} 0 1 = cc in absurd (omega arith)
-
-no-test : (b : Bool) → b ≡ false → ¬ T b
-no-test b e h = rw e at h
-
-defect-inside : (t : Table) (n touch : ℕ) → isOutside t n touch ≡ false → DefectInside t n touch
-defect-inside t n touch e =
-    let r = and→ (isDefect t touch) (inside t n touch) (not-no (isDefectInside t n touch) e) in
-    record { defect = simp tests at (r .0); inside = inside→ t n touch (r .1) }
-
-touch-some : (t : Table) → Whole t → (n touch : ℕ) → DefectInside t n touch → touch ≢ none
+pub touch-some : (t : Table) → Whole t → (n touch : ℕ) → DefectInside t n touch → touch ≢ none
 touch-some t w n touch d = omega (arith, d .defect, w .rest .sizes .begin-fits)
-
-vertex-some : (v : ℕ) → isNoVertex v ≡ false → v ≢ noVertex
-vertex-some v e = eqb-false v noVertex e
-
--- ---- a conflict
-
-record Acceptable (t : Table) (c : Conflict) : Type 0 where
-  outer-1 : T (isOuter (seen t (c .«node_1» .0) .state))
-  outer-2 : T (isOuter (seen t (c .«node_2» .0) .state))
-  two : c .«node_1» .0 ≢ c .«node_2» .0
-  inside-1 : DefectInside t (c .«node_1» .0) (c .«touch_1» .0)
-  inside-2 : DefectInside t (c .«node_2» .0) (c .«touch_2» .0)
-  vertex-1 : c .«vertex_1» .0 ≢ noVertex
-  vertex-2 : c .«vertex_2» .0 ≢ noVertex
-  not-minus-1 : seen t (c .«node_1» .0) .state ≢ S.Shrink
-  not-minus-2 : seen t (c .«node_2» .0) .state ≢ S.Shrink
-  slot : (makesBlossom t (c .«node_1» .0) (c .«node_2» .0) && lacksBlossomSlot t) ≡ false
-
-acceptable : (t : Table) (room : ℕ) (c : Conflict) → verdict (Q.Conflict c) t room ≡ W.Accepted → Acceptable t c
-unfolding verdict conflictNodeChecks
-acceptable t room c e =
-    let x = c .«node_1» .0 in
-    let y = c .«node_2» .0 in
-    let v = c .«vertex_1» .0 in
-    let u = c .«vertex_2» .0 in
-    let r = all-passed (conflictChecks t room c) e in
-    let named = or-no (isNoNode t x || isNoNode t y || isNoVertex v) (isNoVertex u) (r .1 .1 .0) in
-    let first = or-no (isNoNode t x || isNoNode t y) (isNoVertex v) (named .0) in
-    let outers = or-no (isNotOuter t x) (isNotOuter t y) (r .1 .1 .1 .0) in
-    let touches = or-no (isOutside t x (c .«touch_1» .0)) (isOutside t y (c .«touch_2» .0)) (r .1 .1 .1 .1 .1 .0) in
-    let growing = or-no (isMinusNode t x || isMinusNode t y) (not (isGrowing t x || isGrowing t y)) (r .1 .1 .1 .1 .1 .1 .0) in
-    let minus = or-no (isMinusNode t x) (isMinusNode t y) (growing .0) in
-    record {
-      outer-1 = not-no (isOuter (seen t x .state)) (outers .0);
-      outer-2 = not-no (isOuter (seen t y .state)) (outers .1);
-      two = λ q. no-test (eqb x y) (r .1 .1 .1 .1 .0) (simp tests q);
-      inside-1 = defect-inside t x (c .«touch_1» .0) (touches .0);
-      inside-2 = defect-inside t y (c .«touch_2» .0) (touches .1);
-      vertex-1 = vertex-some v (first .1);
-      vertex-2 = vertex-some u (named .1);
-      not-minus-1 = λ q. no-test (isMinusNode t x) (minus .0) (shrink↔ (seen t x .state) .1 q);
-      not-minus-2 = λ q. no-test (isMinusNode t y) (minus .1) (shrink↔ (seen t y .state) .1 q);
-      slot = r .1 .1 .1 .1 .1 .1 .1 .0;
-    }
 
 -- ---- both nodes loaded
 
 -- what the checks see in a slot, of begin and what stands there
-abbrev seenBy : ℕ → Slot → ℕ → Slot
+abbrev pub seenBy : ℕ → Slot → ℕ → Slot
 seenBy begin s n = pick (ltb n begin && not (isPresent (s .state))) newNode s
 
-seen-same : (t u : Table) (n : ℕ) → u .begin ≡ t .begin → at u n ≡ at t n → seen u n ≡ seen t n
+pub seen-same : (t u : Table) (n : ℕ) → u .begin ≡ t .begin → at u n ≡ at t n → seen u n ≡ seen t n
 seen-same t u n e f = ap₂ (λ (b : ℕ) (s : Slot). seenBy b s n) e f
 
 -- loading changes no parent
@@ -157,7 +75,7 @@ pick-tree false true c peer e = let z : _≡_ {A = ℕ} 0 1 = cc in absurd (omeg
 pick-tree false false true peer e = let z : _≡_ {A = ℕ} 0 1 = cc in absurd (omega arith)
 pick-tree false false false peer e = let z : _≡_ {A = ℕ} 0 1 = cc in absurd (omega arith)
 
-place-tree : (s : Slot) → place s ≡ P.Tree → T (inTree s)
+pub place-tree : (s : Slot) → place s ≡ P.Tree → T (inTree s)
 unfolding place
 place-tree s e = pick-tree (inTree s) (eqb (s .link .touch) none) (eqb (s .sibling) none) (record { 0 = s .sibling }) e
 
@@ -249,28 +167,6 @@ pub conflict-keeps :
 conflict-keeps t room c w e d = let ok = acceptable t room c e in conflict-whole t c w ok (λ o. absurd (d (makes t c w ok o)))
 
 -- ---- a virtual conflict
-
-record AcceptableVirtual (t : Table) (c : VirtualConflict) : Type 0 where
-  inside : DefectInside t (c .node .0) (c .touch .0)
-  vertex : c .vertex .0 ≢ noVertex
-  virtual : c .«virtual_vertex» .0 ≢ noVertex
-  grows : seen t (c .node .0) .state ≡ S.Grow
-
-acceptable-virtual : (t : Table) (room : ℕ) (c : VirtualConflict) → verdict (Q.VirtualConflict c) t room ≡ W.Accepted → AcceptableVirtual t c
-unfolding verdict virtualNodeChecks
-acceptable-virtual t room c e =
-    let x = c .node .0 in
-    let v = c .vertex .0 in
-    let u = c .«virtual_vertex» .0 in
-    let r = all-passed (virtualChecks t room c) e in
-    let named = or-no (isNoNode t x || isNoVertex v) (isNoVertex u) (r .1 .1 .0) in
-    let first = or-no (isNoNode t x) (isNoVertex v) (named .0) in
-    record {
-      inside = defect-inside t x (c .touch .0) (r .1 .1 .1 .1 .0);
-      vertex = vertex-some v (first .1);
-      virtual = vertex-some u (named .1);
-      grows = grow↔ (seen t x .state) .0 (not-no (isGrowing t x) (r .1 .1 .1 .1 .1 .0));
-    }
 
 virtual-conflict-table :
     (t : Table) (c : VirtualConflict)

@@ -28,14 +28,15 @@ use Rattle.rules.proofs.Renewing.{Whole}
 use Rattle.rules.specs.Commands.{givesCommands, AllCommands}
 use Rattle.rules.proofs.CommandRecords.{commands-size}
 use Rattle.rules.proofs.CommandsAlone.{conflict-only, virtual-only, expansion-only}
-use Rattle.rules.proofs.RequestCommands.{none-applies, holds-then, conflict-most, virtual-most}
+use Rattle.rules.proofs.RequestCommands.{conflict-most, virtual-most}
+use Rattle.rules.proofs.AcceptedRequests.{all-passed, not-no}
 
 -- accepted: the table is sound, and there are 4,096 bytes
 accepted-so : (r : Request) → T (givesCommands r) → (t : Table) (room : ℕ) → verdict r t room ≡ W.Accepted → T (sound t) × (4096 ≤ room)
 unfolding verdict
-accepted-so (Q.Conflict c) g t room e = let p = none-applies (conflictChecks t room c) e in (holds-then (sound t) (p .0), ltb-false room 4096 (p .1 .0))
-accepted-so (Q.VirtualConflict c) g t room e = let p = none-applies (virtualChecks t room c) e in (holds-then (sound t) (p .0), ltb-false room 4096 (p .1 .0))
-accepted-so (Q.Expansion x) g t room e = let p = none-applies (expansionChecks t room x) e in (holds-then (sound t) (p .0), ltb-false room 4096 (p .1 .0))
+accepted-so (Q.Conflict c) g t room e = let p = all-passed (conflictChecks t room c) e in (not-no (sound t) (p .0), ltb-false room 4096 (p .1 .0))
+accepted-so (Q.VirtualConflict c) g t room e = let p = all-passed (virtualChecks t room c) e in (not-no (sound t) (p .0), ltb-false room 4096 (p .1 .0))
+accepted-so (Q.Expansion x) g t room e = let p = all-passed (expansionChecks t room x) e in (not-no (sound t) (p .0), ltb-false room 4096 (p .1 .0))
 accepted-so Q.Reset g t room e = absurd g
 accepted-so Q.List g t room e = absurd g
 

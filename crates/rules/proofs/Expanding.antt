@@ -1,7 +1,7 @@
 -- An accepted expansion keeps a sound table sound.
 use mathlib.Core.Path.{_≡_, refl, ap, sym, _∙_}
 use mathlib.Core.Logic.{_≢_, _⊎_, inl, inr}
-use mathlib.Core.Bool.{Bool, true, false, not, _&&_}
+use mathlib.Core.Bool.{Bool, true, false, not}
 use mathlib.Core.List.{List, [], _∷_}
 use Prim.Native.Nat.{ℕ, _≤_}
 use native.Mathlib.Omega.{arith}
@@ -11,26 +11,21 @@ use Rattle.slot.specs.Number.{none}
 use Rattle.slot.specs.Slot.{emptySlot}
 use Rattle.table.specs.Table.{Table, at, put}
 use Rattle.table.proofs.Laws.{Full, at-put-same, at-put-other, put-full}
-use Rattle.nodes.specs.Nodes.{isBlossom, outer, inner}
+use Rattle.nodes.specs.Nodes.{outer, inner}
 use Rattle.nodes.specs.Climb.{secondOuterBlossom}
-use Rattle.lists.specs.Choice.{pick}
-use Rattle.refusal.specs.declared.Refusal.{Refusal}
-use Rattle.refusal.specs.declared.Refusal.the-variants.{NotSound, NoCommandRoom, NotExpandable}
 use Rattle.refusal.specs.declared.Verdict.the-variants as W
 use Rattle.record.specs.declared.request.Expansion.{Expansion}
 use Rattle.record.specs.declared.request.Request.the-variants as Q
 use Rattle.rules.specs.Act.{say, change, _then_, look, read, alter}
-use Rattle.rules.specs.Slots.{withParent, withSibling, isShrink, up, next}
-use Rattle.rules.specs.Sound.{sound}
+use Rattle.rules.specs.Slots.{withParent, withSibling, up, next}
 use Rattle.rules.specs.Blossom.{replaceChild}
 use Rattle.rules.specs.Expansion.{ringOpened, disposed, expandBlossom, expansion}
-use Rattle.rules.specs.Refusals.{lacksCommandRoom, expansionNodeChecks}
 use Rattle.rules.specs.Calls.{verdict}
 use Rattle.rules.specs.Chain.{_∈_}
 use Rattle.rules.specs.FactsOfNodes.{Minus, Plus, OuterChild}
 use Rattle.rules.specs.FactsOfBlossoms.{InnerChild, DefectInside, Inside}
-use Rattle.rules.proofs.Reflect.{and→, tests}
-use Rattle.rules.proofs.ReflectSlots.{outer-not-inner, outer-present, shrink↔, grow-shrink}
+use Rattle.rules.proofs.AcceptedRequests.{acceptable-expansion}
+use Rattle.rules.proofs.ReflectSlots.{outer-not-inner, outer-present, grow-shrink}
 use Rattle.rules.proofs.Past.{outer-below, inner-below}
 use Rattle.rules.proofs.ChildLaws.{first-child, child-of-shrink, shrink-is-minus}
 use Rattle.rules.proofs.InsideLaws.{inside-case, outer-blossom-is, second-outer-holds, second-outer-ring}
@@ -210,21 +205,5 @@ module _ (t : Table) (w : Whole t) (b : ℕ) (blossom : t .begin ≤ b) (shrinks
 
 -- ---- an accepted request
 
--- the last of three tests: where none applies, what it asks for holds
-third-passed : (a b c : Bool) (r s q : Refusal) → pick a (W.Refused r) (pick b (W.Refused s) (pick (not c) (W.Refused q) W.Accepted)) ≡ W.Accepted → T c
-third-passed true b c r s q e = let z : _≡_ {A = ℕ} 0 1 = cc in absurd (omega arith)
-third-passed false true c r s q e = let z : _≡_ {A = ℕ} 0 1 = cc in absurd (omega arith)
-third-passed false false true r s q e = tt
-third-passed false false false r s q e = let z : _≡_ {A = ℕ} 0 1 = cc in absurd (omega arith)
-
--- 11 was not given: "node to expand is [..] a present − blossom"
-pub acceptable-expansion : (t : Table) (room : ℕ) (e : Expansion) → verdict (Q.Expansion e) t room ≡ W.Accepted → (t .begin ≤ e .node .0) × (at t (e .node .0) .state ≡ S.Shrink)
-unfolding verdict expansionNodeChecks
-acceptable-expansion t room e a =
-    let n = e .node .0 in
-    let h = third-passed (not (sound t)) (lacksCommandRoom room) (isBlossom t n && isShrink (at t n .state)) NotSound NoCommandRoom NotExpandable a in
-    let r = and→ (isBlossom t n) (isShrink (at t n .state)) h in
-    (simp tests at (r .0), shrink↔ (at t n .state) .0 (r .1))
-
 pub expansion-keeps : (t : Table) (room : ℕ) (e : Expansion) → Whole t → verdict (Q.Expansion e) t room ≡ W.Accepted → Whole (expansion (e .node .0) t .table)
-expansion-keeps t room e w a = let r = acceptable-expansion t room e a in blossom-expanded t w (e .node .0) (r .0) (r .1)
+expansion-keeps t room e w a = let r = acceptable-expansion t room e a in blossom-expanded t w (e .node .0) (r .blossom) (r .shrinks)

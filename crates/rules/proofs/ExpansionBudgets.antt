@@ -32,7 +32,8 @@ use Rattle.rules.proofs.RingCut.{CutRing}
 use Rattle.rules.proofs.RingTaken.{RingTaken}
 use Rattle.rules.proofs.RingOpening.{then-both, steps-counted, even-matched, even-hung, odd-matched, odd-hung, opened-even, opened-odd, parity, ring-opened-taken}
 use Rattle.rules.proofs.PlaceInList.{relinked-enough}
-use Rattle.rules.proofs.Expanding.{is-minus, top-held, bottom-held, blossom-cut, top-right, acceptable-expansion}
+use Rattle.rules.proofs.Expanding.{is-minus, top-held, bottom-held, blossom-cut, top-right}
+use Rattle.rules.proofs.AcceptedRequests.{acceptable-expansion}
 
 -- ---- expansion as specs/Expansion has it, with k for each budget
 
@@ -191,4 +192,4 @@ pub expansion-budget :
     → (k : ℕ)
     → 256 ≤ k
     → expansionWithin k (e .node .0) t ≡ expansion (e .node .0) t
-expansion-budget t room e w a k enough = let r = acceptable-expansion t room e a in expansion-enough t w (e .node .0) (r .0) (r .1) k enough
+expansion-budget t room e w a k enough = let r = acceptable-expansion t room e a in expansion-enough t w (e .node .0) (r .blossom) (r .shrinks) k enough

@@ -28,7 +28,8 @@ use Rattle.rules.proofs.RingLoops.{twoByTwo, hungDown, hungUp, not-odd,
 use Rattle.rules.proofs.RingCut.{CutRing}
 use Rattle.rules.proofs.RingTaken.{even-after}
 use Rattle.rules.proofs.RingOpening.{opened-even, opened-odd, parity}
-use Rattle.rules.proofs.Expanding.{blossom-cut, acceptable-expansion}
+use Rattle.rules.proofs.Expanding.{blossom-cut}
+use Rattle.rules.proofs.AcceptedRequests.{acceptable-expansion}
 
 -- each node Stay
 abbrev pub allStay : List ℕ → List Record
@@ -148,4 +149,4 @@ module _ (t : Table) (w : Whole t) (b : ℕ) (blossom : t .begin ≤ b) (shrinks
   says-at-most = omega (arith, says-length, ring-fits)
 
 pub expansion-commands : (t : Table) (room : ℕ) (e : Expansion) → Whole t → verdict (Q.Expansion e) t room ≡ W.Accepted → length (expansion (e .node .0) t .said) ≤ 256
-expansion-commands t room e w a = let r = acceptable-expansion t room e a in says-at-most t w (e .node .0) (r .0) (r .1)
+expansion-commands t room e w a = let r = acceptable-expansion t room e a in says-at-most t w (e .node .0) (r .blossom) (r .shrinks)

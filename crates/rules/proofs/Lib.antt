@@ -54,6 +54,7 @@ pub mod Making
 pub mod MakingBudgets
 pub mod MakingWalks
 pub mod MadeElsewhere
+pub mod AcceptedRequests
 pub mod Accepting
 pub mod ReadAs
 pub mod Opened

@@ -1,19 +1,19 @@
 -- The examples that document 01 marks for proof, (a) to (j), each one statement on one table.
 use mathlib.Core.Path.{_≡_, refl}
-use mathlib.Core.Bool.{Bool, true, false}
+use mathlib.Core.Bool.{true}
 use mathlib.Core.List.{List, [], _∷_}
 use Prim.Native.Nat.{ℕ}
 use Rattle.slot.specs.declared.state.State.the-variants as S
 use Rattle.slot.specs.Number.{none}
-use Rattle.slot.specs.Slot.{Link, Slot, newNode, mirror}
-use Rattle.table.specs.Table.{Table, at}
+use Rattle.slot.specs.Slot.{Link}
+use Rattle.table.specs.Table.{at}
 use Rattle.counts.specs.Making.{fresh}
 use Rattle.record.specs.declared.request.Request.{Request}
 use Rattle.record.specs.declared.request.Request.the-variants as Q
 use Rattle.rules.specs.Act.{create, expand}
 use Rattle.rules.specs.Sound.{sound, ringOf, isSingle, isFree}
-use Rattle.rules.specs.Listing.{listing, pairEntry, virtualEntry}
-use Rattle.rules.specs.Calls.{answered, verdict, verdictNumber}
+use Rattle.rules.specs.Listing.{pairEntry, virtualEntry}
+use Rattle.rules.specs.Calls.{verdict, verdictNumber}
 use Rattle.rules.proofs.Script.{meet, border, open-up, after, saysAfter, numberAfter, stays, grows, shrinks, all-rules}
 
 link : ℕ → ℕ → ℕ → ℕ → Link

@@ -1,6 +1,6 @@
 -- Further worked examples. Each pins something that the marked ones leave open, and what it says was compared with the original.
 use mathlib.Core.Path.{_≡_, refl}
-use mathlib.Core.Bool.{true, false}
+use mathlib.Core.Bool.{true}
 use mathlib.Core.List.{List, [], _∷_, _++_}
 use Prim.Native.Nat.{ℕ}
 use Rattle.slot.specs.Number.{none}
@@ -9,7 +9,7 @@ use Rattle.table.specs.Table.{Table, at}
 use Rattle.counts.specs.Making.{fresh}
 use Rattle.record.specs.declared.request.Request.{Request}
 use Rattle.record.specs.declared.request.Request.the-variants as Q
-use Rattle.rules.specs.Act.{create, expand}
+use Rattle.rules.specs.Act.{expand}
 use Rattle.rules.specs.Sound.{sound, children, ringOf}
 use Rattle.rules.specs.Listing.{pairEntry, virtualEntry}
 use Rattle.rules.proofs.Script.{meet, join, border, open-up, after, saysAfter, stays, grows, shrinks, all-rules}

@@ -33,7 +33,7 @@ use Rattle.rules.proofs.Within.{Alike, Acted}
 use Rattle.rules.proofs.ReadingWithin.{seen-alike, defect-inside-alike, same-tree-alike}
 use Rattle.rules.proofs.ConflictWithin.{conflict-acted, virtual-acts}
 use Rattle.rules.proofs.ExpansionWithin.{expansion-acted}
-use Rattle.rules.proofs.NamedNodes.{conflict-named, virtual-named, expansion-named}
+use Rattle.rules.proofs.AcceptedRequests.{acceptable, acceptable-virtual, acceptable-expansion}
 use Rattle.rules.specs.Commands.{givesCommands}
 use Rattle.rules.proofs.Areas.{InArea, fresh, named-concerned, named-in, inside-in}
 
@@ -48,7 +48,7 @@ module _ (t : Table) (room : ℕ) (w : Whole t) (u : Table) where
   expansion-alike e ok a =
       let r = Q.Expansion e in
       let b = e .node .0 in
-      let q = expansion-named t room e ok in
+      let q = acceptable-expansion t room e ok in
       let o : T (outer t b) = rw (q .shrinks) tt in
       let minus = shrink-is-minus t (w .full) (w .core) b (q .shrinks) in
       let child = first-child t (w .full) (w .core) b o (minus .has-child) in
@@ -71,7 +71,7 @@ module _ (t : Table) (room : ℕ) (w : Whole t) (u : Table) where
   request-acted (Q.Conflict c) one ok a same =
       let r = Q.Conflict c in
       conflict-acted (InArea r t) (isMaking r t) (a .closed .nothing) t u a w c (named-in r t room w ok (c .«node_1» .0) (inl refl)) (named-in r t room w ok (c .«node_2» .0) (inr (inl refl)))
-      (conflict-named t room c ok .two) (λ m. (m, fresh m refl, same m))
+      (acceptable t room c ok .two) (λ m. (m, fresh m refl, same m))
   request-acted (Q.VirtualConflict c) one ok a same =
       let r = Q.VirtualConflict c in
       virtual-acts (InArea r t) false (a .closed .nothing) c (named-in r t room w ok (c .node .0) (inl refl)) t u a
@@ -169,7 +169,7 @@ module _ (t : Table) (room : ℕ) (w : Whole t) (u : Table) where
   unfolding verdict
   request-verdict (Q.Conflict c) one ok s v a same =
       let r = Q.Conflict c in
-      let q = conflict-named t room c ok in
+      let q = acceptable t room c ok in
       let x = c .«node_1» .0 in
       let y = c .«node_2» .0 in
       decided (sound t) (sound u) (conflictNodeChecks t c) (conflictNodeChecks u c) s v
@@ -178,7 +178,7 @@ module _ (t : Table) (room : ℕ) (w : Whole t) (u : Table) where
       (inside-in r t room w ok y (c .«touch_2» .0) (named-concerned r t room w ok y (inr (inl refl))) (q .inside-2 .inside)) same)
   request-verdict (Q.VirtualConflict c) one ok s v a same =
       let r = Q.VirtualConflict c in
-      let q = virtual-named t room c ok in
+      let q = acceptable-virtual t room c ok in
       let x = c .node .0 in
       decided (sound t) (sound u) (virtualNodeChecks t c) (virtualNodeChecks u c) s v
       (virtual-checks-alike (InArea r t) t u a c (named-in r t room w ok x (inl refl)) (inside-in r t room w ok x (c .touch .0) (named-concerned r t room w ok x (inl refl)) (q .inside .inside)))

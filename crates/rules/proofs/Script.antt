@@ -1,8 +1,6 @@
 -- A short way to write requests and scenarios for the worked examples.
 use Prim.Native.Nat.{ℕ, _+_}
 use mathlib.Core.List.{List, [], _∷_}
-use Rattle.slot.specs.declared.number.Node.{Node}
-use Rattle.slot.specs.declared.number.Vertex.{Vertex}
 use Rattle.table.specs.Table.{Table}
 use Rattle.counts.specs.Making.{fresh}
 use Rattle.record.specs.declared.request.Request.{Request}
@@ -13,7 +11,7 @@ use Rattle.table.specs.Table.{at, put}
 use Rattle.counts.specs.Counts.{withDefects, withBlossoms}
 use Rattle.nodes.specs.Place.{place}
 use Rattle.nodes.specs.Climb.{insideWithin, outerBlossomWithin, secondOuterWithin}
-use Rattle.rules.specs.Act.{Did, nodeOf, speed, skip, say, change, _then_, look, read, choose, alter}
+use Rattle.rules.specs.Act.{nodeOf, speed, skip, say, change, _then_, look, read, choose, alter}
 use Rattle.rules.specs.Walk.{walk, ends, isIn, allIn, allBelow, firstShared}
 use Rattle.rules.specs.Sound.{s1, s2, s3, s4, s5, s6, s7, s8, allHold, sound, lowestFault, firstFaultOf}
 use Rattle.rules.specs.Trees.{loaded, rootWithin}

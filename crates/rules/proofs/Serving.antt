@@ -10,7 +10,7 @@ use Rattle.record.specs.declared.request.Reading.{Reading}
 use Rattle.record.specs.declared.request.Reading.the-variants as G
 use Rattle.record.specs.Reading as reading
 use Rattle.rules.specs.Act.{World}
-use Rattle.rules.specs.Run.{Progress, Ended, stopped, advanced, goOn, room, served, runFrom, tapeEmpty, allowanceUsed, outputFull, badRecord}
+use Rattle.rules.specs.Run.{Progress, Ended, stopped, advanced, goOn, room, served, runFrom, tapeEmpty, allowanceUsed, outputFull}
 use Rattle.rules.proofs.Renewing.{Whole}
 use Rattle.rules.proofs.Keeping.{answered-keeps}
 

@@ -6,10 +6,9 @@ use native.Mathlib.Decide.{decLt}
 use native.Mathlib.Omega.{arith}
 use lib.Dec.{T}
 use Rattle.table.specs.Table.{Table, at}
-use Rattle.table.proofs.Laws.{Full, at-out, table-ext}
+use Rattle.table.proofs.Laws.{at-out, table-ext}
 use Rattle.refusal.specs.declared.Verdict.the-variants as W
 use Rattle.record.specs.declared.request.Request.{Request}
-use Rattle.rules.specs.Sound.{sound}
 use Rattle.rules.specs.Calls.{actOf, verdict}
 use Rattle.rules.specs.Concerns.{isMaking}
 use Rattle.rules.proofs.Wholes.{from-whole}

@@ -1,11 +1,10 @@
 -- What each request answers: refused, and nothing changes; or accepted, and its rule is done.
 use Prim.Native.Nat.{ℕ}
-use mathlib.Core.List.{List, []}
+use mathlib.Core.List.{List}
 use Rattle.table.specs.Table.{Table}
 use Rattle.counts.specs.Making.{emptied}
 use Rattle.record.specs.declared.request.Request.{Request}
 use Rattle.record.specs.declared.request.Request.the-variants as Q
-use Rattle.record.specs.declared.answer.Record.{Record}
 use Rattle.refusal.specs.declared.Verdict.{Verdict}
 use Rattle.refusal.specs.declared.Verdict.the-variants.{Accepted, Refused}
 use Rattle.refusal.specs.Refusal.{numberOf}

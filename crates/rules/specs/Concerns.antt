@@ -1,7 +1,7 @@
 -- "For each node it names, a request concerns that node alone if it is free, newly loaded or matched to a virtual vertex;
 -- otherwise its whole pair or whole tree."
 use Prim.Native.Nat.{ℕ}
-use mathlib.Core.Bool.{Bool, true, false, _&&_, _||_}
+use mathlib.Core.Bool.{Bool, false, _&&_, _||_}
 use mathlib.Core.List.{List, [], _∷_}
 use lib.Dec.{eqb}
 use Rattle.slot.specs.State.{isOuter}

@@ -1,6 +1,5 @@
 -- The listing: the pair rule and the ring rule call one another down to defects.
 use Prim.Native.Nat.{ℕ, zero, suc}
-use mathlib.Core.Bool.{Bool, _&&_}
 use mathlib.Core.List.{List, [], _∷_, _++_}
 use lib.Dec.{eqb, ltb}
 use Rattle.slot.specs.declared.number.Vertex.{Vertex}

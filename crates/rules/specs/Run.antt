@@ -1,19 +1,16 @@
 -- A run: a tape of records, handled one after another.
 use Prim.Native.Nat.{ℕ, zero, suc, _+_, _-_}
-use mathlib.Core.Bool.{Bool}
 use mathlib.Core.List.{List, [], _∷_, _++_}
 use lib.Dec.{eqb, ltb}
 use lib.ListN.{length, drop}
 use Rattle.lists.specs.Choice.{pick}
-use Rattle.table.specs.Table.{Table}
-use Rattle.refusal.specs.declared.Refusal.{Refusal}
 use Rattle.record.specs.declared.request.Request.{Request}
 use Rattle.record.specs.declared.request.Reading.{Reading}
 use Rattle.record.specs.declared.request.Reading.the-variants as G
 use Rattle.record.specs.declared.answer.Record.the-variants as R
 use Rattle.record.specs.Reading as reading
-use Rattle.record.specs.Writing.{Out, writeAll}
-use Rattle.rules.specs.Act.{World, Did, choose}
+use Rattle.record.specs.Writing.{writeAll}
+use Rattle.rules.specs.Act.{World}
 use Rattle.rules.specs.Sound.{sound}
 use Rattle.rules.specs.Calls.{answered, verdict, verdictNumber}
 

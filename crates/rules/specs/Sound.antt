@@ -6,7 +6,7 @@ use lib.Dec.{eqb, leb, ltb}
 use lib.ListN.{length}
 use Rattle.lists.specs.Choice.{pick}
 use Rattle.slot.specs.Number.{none}
-use Rattle.slot.specs.Slot.{Link, Slot, noLink, mirror}
+use Rattle.slot.specs.Slot.{Slot, noLink, mirror}
 use Rattle.table.specs.Table.{Table, at}
 use Rattle.nodes.specs.Nodes.{isBlossom, isDefect, present, outer, inner}
 use Rattle.nodes.specs.Climb.{inside}

@@ -1,7 +1,7 @@
 -- A run from where it stands, one record at a time.
-use mathlib.Core.Path.{_≡_, refl, sym, ap, _∙_}
-use mathlib.Core.Bool.{Bool, true, false}
-use mathlib.Core.List.{List, []}
+use mathlib.Core.Path.{_≡_, refl, sym, _∙_}
+use mathlib.Core.Bool.{true, false}
+use mathlib.Core.List.{List}
 use Prim.Native.Nat.{ℕ, zero, suc, _+_, _-_, _≤_, _<_}
 use native.Mathlib.Omega.{arith}
 use native.Mathlib.Nat.{le-refl}
@@ -11,13 +11,12 @@ use borrow.Author.Tests.{eq-eqb, ne-eqb, lt-ltb, le-ltb}
 use Rattle.table.specs.Words.{tableOf}
 use Rattle.refusal.specs.declared.Refusal.{Refusal}
 use Rattle.record.specs.declared.request.Request.{Request}
-use Rattle.record.specs.declared.request.Reading.{Reading}
 use Rattle.record.specs.declared.request.Reading.the-variants as G
 use Rattle.record.specs.Reading as reading
 use Rattle.rules.specs.Act.{World, worldOf}
 use Rattle.rules.specs.Sound.{sound}
-use Rattle.rules.specs.Run.{Stop, tapeEmpty, allowanceUsed, outputFull, badRecord, stopNumber, Progress, Ended, stopped, goOn, room, served, Ran, unsound, ran, began, runFrom, runTape}
-use Rattle.running.specs.Tape.{HandsOut, Tape}
+use Rattle.rules.specs.Run.{Stop, tapeEmpty, allowanceUsed, outputFull, badRecord, stopNumber, Progress, stopped, room, served, began, runFrom, runTape}
+use Rattle.running.specs.Tape.{Tape}
 
 -- what `&l[n..]` is
 pub tail : (l : List ℕ) (n : ℕ) → take (length l - n) (drop n l) ≡ drop n l

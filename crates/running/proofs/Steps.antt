@@ -1,10 +1,9 @@
 -- A request served: its answer, and then its end record.
-use mathlib.Core.Path.{_≡_, refl, sym, ap, _∙_}
+use mathlib.Core.Path.{_≡_, sym, ap, _∙_}
 use mathlib.Core.Bool.{true}
 use mathlib.Core.List.{List, [], _∷_, _++_}
 use Prim.Native.Nat.{ℕ, _-_}
 use lib.ListN.{length}
-use Rattle.table.specs.Table.{Table}
 use Rattle.table.specs.Words.{tableOf}
 use Rattle.refusal.specs.declared.Answer.{Answer}
 use Rattle.refusal.specs.declared.Answer.the-variants as A
@@ -12,7 +11,6 @@ use Rattle.refusal.specs.declared.Verdict.{Verdict}
 use Rattle.refusal.specs.declared.Verdict.the-variants as W
 use Rattle.refusal.specs.Refusal.{answerNumber, answerWritten}
 use Rattle.record.specs.declared.request.Request.{Request}
-use Rattle.record.specs.declared.answer.Record.{Record}
 use Rattle.record.specs.declared.answer.Record.the-variants as R
 use Rattle.record.specs.Records.{answerBytes}
 use Rattle.record.specs.Writing.{Out, outOf, written, writeAll}

@@ -2,13 +2,11 @@
 use mathlib.Core.Path.{_≡_, refl}
 use mathlib.Core.List.{List, [], _∷_}
 use Prim.Native.Nat.{ℕ}
-use Rattle.slot.specs.declared.state.State.the-variants as S
 use Rattle.slot.specs.Slot.{newNode}
 use Rattle.table.specs.Table.{Table, put}
 use Rattle.counts.specs.Making.{fresh}
 use Rattle.record.specs.declared.request.Request.{Request}
 use Rattle.record.specs.declared.request.Request.the-variants as Q
-use Rattle.rules.specs.Slots.{withState}
 use Rattle.rules.specs.Calls.{verdict, verdictNumber}
 use Rattle.rules.proofs.Script.{meet, join, border, open-up, after, all-rules}
 

@@ -3,17 +3,16 @@ use mathlib.Core.Path.{_≡_, refl}
 use mathlib.Core.List.{List, [], _∷_, _++_}
 use Prim.Native.Nat.{ℕ}
 use lib.ListN.{length, take, replicate}
-use Rattle.table.specs.Table.{Table, put}
+use Rattle.table.specs.Table.{put}
 use Rattle.slot.specs.Slot.{newNode}
 use Rattle.counts.specs.Making.{fresh}
-use Rattle.record.specs.declared.request.Request.{Request}
 use Rattle.record.specs.declared.request.Request.the-variants as Q
 use Rattle.record.specs.Kinds.{layoutOf}
 use Rattle.record.specs.Records.{requestBytes, answerBytes}
 use Rattle.record.specs.Reading as reading
 use Rattle.record.specs.Writing.{outOf, placed, written, writeAll}
 use Rattle.rules.specs.Act.{World}
-use Rattle.rules.specs.Run.{Ran, unsound, ran, Ended, stopNumber, runTape}
+use Rattle.rules.specs.Run.{Ran, unsound, ran, stopNumber, runTape}
 use Rattle.rules.proofs.Script.{meet, all-rules}
 
 -- conflict 0, 1 (touches 0, 1, vertices 10, 11), then list

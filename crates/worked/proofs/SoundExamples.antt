@@ -1,19 +1,17 @@
 -- Tables that are wrong in one place, with the rule that fails first and the lowest slot at which it fails.
 use mathlib.Core.Path.{_≡_, refl}
-use mathlib.Core.Bool.{true, false}
-use mathlib.Core.List.{List, [], _∷_}
+use mathlib.Core.List.{[], _∷_}
 use Prim.Native.Nat.{ℕ}
 use Rattle.slot.specs.declared.state.State.the-variants as S
 use Rattle.slot.specs.Number.{none}
-use Rattle.slot.specs.Slot.{Link, Slot, emptySlot, newNode, noLink}
-use Rattle.table.specs.Table.{Table, at, put}
+use Rattle.slot.specs.Slot.{Slot, newNode}
+use Rattle.table.specs.Table.{Table, put}
 use Rattle.counts.specs.Making.{fresh}
-use Rattle.counts.specs.Counts.{withBegin, withDefects, withBlossoms}
-use Rattle.record.specs.declared.request.Request.{Request}
+use Rattle.counts.specs.Counts.{withDefects, withBlossoms}
 use Rattle.rules.specs.Act.{alter}
 use Rattle.rules.specs.Slots.{withState, withParent, withFirstChild, withSibling}
-use Rattle.rules.specs.Sound.{Fault, noFault, faultAt, firstFault, S1, S2, S3, S4, S5, S6, S7, S8}
-use Rattle.rules.proofs.Script.{meet, join, border, open-up, after, all-rules}
+use Rattle.rules.specs.Sound.{noFault, faultAt, firstFault, S1, S2, S3, S4, S5, S6, S8}
+use Rattle.rules.proofs.Script.{meet, join, after, all-rules}
 
 withRing : ℕ → Slot → Slot
 withRing n s = record { state = s .state; parent = s .parent; firstChild = s .firstChild; sibling = s .sibling; ring = n; link = s .link }

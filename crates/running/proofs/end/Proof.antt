@@ -1,4 +1,4 @@
-use mathlib.Core.Path.{sym, _∙_}
+use mathlib.Core.Path.{_∙_}
 use borrow.Author.Needs.{needs}
 use Rattle.running.proofs.end.Statement.{statement}
 use Rattle.running.proofs.end.Tie as tie
