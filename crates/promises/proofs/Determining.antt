@@ -99,7 +99,7 @@ ran-from : (b : Bool) (e₀ e : Ended) → pick b (ran e₀) unsound ≡ ran e �
 ran-from true e₀ e q = (tt, cc)
 ran-from false e₀ e q = let z : _≡_ {A = ℕ} 0 1 = cc in absurd (omega arith)
 
-tape-ran : (allowance : ℕ) (w : World) (tape : List ℕ) (e : Ended) → runTape allowance w tape ≡ ran e → T (sound (w .table)) × (runFrom allowance (began w tape) ≡ e)
+pub tape-ran : (allowance : ℕ) (w : World) (tape : List ℕ) (e : Ended) → runTape allowance w tape ≡ ran e → T (sound (w .table)) × (runFrom allowance (began w tape) ≡ e)
 unfolding runTape
 tape-ran allowance w tape e q = ran-from (sound (w .table)) (runFrom allowance (began w tape)) e q
 

@@ -78,6 +78,7 @@ pub mod KeptByRules
 pub mod Wholes
 pub mod Keeping
 pub mod Serving
+pub mod RunCounts
 pub mod ClimbBudgets
 pub mod BudgetsSuffice
 pub mod Kept

@@ -1,4 +1,5 @@
 -- A run: a tape of records, handled one after another.
+use mathlib.Core.Path.{_≡_}
 use Prim.Native.Nat.{ℕ, zero, suc, _+_, _-_}
 use mathlib.Core.List.{List, [], _∷_, _++_}
 use lib.Dec.{eqb, ltb}
@@ -62,6 +63,11 @@ runFrom zero p = pick (eqb (length (p .rest)) 0) (stopped tapeEmpty p) (stopped 
 runFrom (suc k) p =
     let next = goOn (runFrom k) (reading.read (p .rest)) p in
     pick (eqb (length (p .rest)) 0) (stopped tapeEmpty p) (pick (ltb (room (p .world)) 4102) (stopped outputFull p) next)
+
+-- so many records stand between the tape's start and the rest
+abbrev pub Between : ℕ → List ℕ → List ℕ → Type 0
+Between zero tape rest = tape ≡ rest
+Between (suc n) tape rest = (q : Request) × (size : ℕ) × (reading.read tape ≡ G.Request q size) × Between n (drop size tape) rest
 
 -- "On an unsound table: refusal 1 before any stop, nothing handled."
 pub data Ran : Type 0 where
