@@ -3,9 +3,8 @@ use crate::marks;
 use slot::Node;
 use table::Table;
 ghost use mathlib.Core.Path.{_≡_};
-ghost use Prim.Native.Nat.{_-_};
 ghost use Rattle.table.specs.Words.{tableOf};
-ghost use Rattle.sound_walks.specs.Marks.{judgedOf, sweep};
+ghost use Rattle.sound_walks.specs.Marks.{judgedOf};
 ghost use Rattle.sound_walks.specs.Depths.{measured, recorded, depthStep};
 
 // The depth of n, at most 257 steps to a node whose depth is known. 65,535 if there are more.
@@ -49,11 +48,15 @@ fn note_way(t: &Table, deep: &mut [u16], n: Node, depth: u16)
     }
 }
 
-// Whether the way up from n, which has this parent, comes to an end. Most often the parent's depth is known.
-pub fn depth_step(t: &Table, deep: &mut [u16], n: Node, above: Node) -> bool
-    requires { ⌜ above .0 ≡ up (tableOf (now t)) (n .0) ⌝ }
+// Whether the way up from n comes to an end. A node without a parent is at the top, and its depth need not be remembered; most
+// often the parent's depth is known.
+pub fn depth_step(t: &Table, deep: &mut [u16], n: Node) -> bool
     ensures { λ r. ⌜ judgedOf r (now (deep .exit)) ≡ depthStep (tableOf (now (t .entry))) (n .0) (now (deep .entry)) ⌝ }
 {
+    let above = nodes::field::parent(t, n);
+    if above.0 == slot::number::NO_NODE {
+        return true;
+    }
     let own = marks::depth_of(deep, n);
     if own != 0 {
         return own <= 257;

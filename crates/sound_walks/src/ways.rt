@@ -23,7 +23,7 @@ fn way_step<'a>(t: &Table, listed: &'a [u8], ringed: &'a [u8], deep: &mut [u16],
     if !marks::is_marked(listed, n) {
         return false;
     }
-    depths::depth_step(t, deep, n, above)
+    depths::depth_step(t, deep, n)
 }
 
 // The slots from one number to before another.
