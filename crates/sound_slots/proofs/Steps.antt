@@ -1,11 +1,11 @@
 -- Steps of the code that branch: what was found so far, in the code's order, and then the function's own promise.
-use mathlib.Core.Path.{_≡_, refl, sym, ap, _∙_}
-use mathlib.Core.Bool.{Bool, true, false, _&&_, _||_, not}
+use mathlib.Core.Path.{_≡_, sym, ap, _∙_}
+use mathlib.Core.Bool.{Bool, true, false, _&&_, not}
 use Prim.Native.Nat.{ℕ, _≤_, _<_}
-use lib.Dec.{eqb, ltb}
+use lib.Dec.{eqb}
 use borrow.Author.Tests.{eq-eqb, lt-ltb, le-ltb}
 use Rattle.slot.specs.declared.state.State.{State}
-use Rattle.slot.specs.Slot.{Link, Slot, mirror}
+use Rattle.slot.specs.Slot.{Link, Slot, noLink, mirror}
 use Rattle.table.specs.Table.{Table, at}
 use Rattle.nodes.specs.Climb.{insideWithin, inside}
 use Rattle.rules.specs.Slots.{isNone, isSome, sameLink, isGrow, isShrink, next}
@@ -26,6 +26,16 @@ module _ (p q a b x y : Bool) (e : p ≡ q) (f : x ≡ (p && a)) (g : y ≡ (x &
 
   pub joined-more : (c z : Bool) → z ≡ (y && c) → z ≡ (q && a && b && c)
   joined-more c z h = rw (h, joined)
+
+-- a Grow node with a sibling, and one without a parent
+module _ (t : Table) (n : ℕ) (s : Slot) where
+  pub sibling-stops : isNone (s .sibling) ≡ false → false ≡ growHolds t n s
+  unfolding growHolds
+  sibling-stops h = stops _ _ h
+
+  pub top-decides : (r : Bool) → isNone (s .sibling) ≡ true → isNone (s .parent) ≡ true → r ≡ sameLink (s .link) noLink → r ≡ growHolds t n s
+  unfolding growHolds
+  top-decides r h u e = goes _ _ _ h (rw u e)
 
 -- + and − nodes, by the state of their parent
 module _ (t : Table) (n : ℕ) (s : Slot) (above : State) (e : above ≡ at t (s .parent) .state) (through : Bool) (f : through ≡ isThrough (s .link)) where
@@ -66,6 +76,10 @@ module _ (t : Table) (x n b : ℕ) (p : b ≡ t .begin) where
   touch-climbs r q e = e ∙ rw (← p, lt-ltb n b q)
 
 module _ (t : Table) (n : ℕ) (s : Slot) where
+  pub pair-stops : pointsBack t n (s .sibling) ≡ false → false ≡ pairHolds t n s
+  unfolding pairHolds
+  pair-stops h = stops _ _ h
+
   pub pair-smaller : pointsBack t n (s .sibling) ≡ true → s .sibling < n → true ≡ pairHolds t n s
   unfolding pairHolds
   pair-smaller h q = rw (h, lt-ltb (s .sibling) n q)

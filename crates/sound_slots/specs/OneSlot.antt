@@ -2,7 +2,7 @@
 -- another slot's test or a walk tells is left out. That all tests and walks together say what the rules say is proved in the
 -- crate `sound`.
 use Prim.Native.Nat.{ℕ}
-use mathlib.Core.Bool.{Bool, true, false, not, _&&_, _||_}
+use mathlib.Core.Bool.{Bool, false, not, _&&_, _||_}
 use lib.Dec.{eqb, ltb}
 use Rattle.lists.specs.Choice.{pick}
 use Rattle.slot.specs.declared.state.State.{State}

@@ -2,7 +2,7 @@
 use mathlib.Core.Path.{_≡_, refl, sym, ap, _∙_}
 use mathlib.Core.List.{List}
 use mathlib.Core.Bool.{Bool, true, false, _&&_, _||_, not, and-true}
-use Prim.Native.Nat.{ℕ, _+_, _%_, _≤_, _<_}
+use Prim.Native.Nat.{ℕ, _%_, _≤_, _<_}
 use native.Mathlib.Nat.{zero-add}
 use native.Mathlib.Omega.{arith}
 use lib.Dec.{eqb, leb}
@@ -12,14 +12,14 @@ use Rattle.lists.specs.Choice.{pick}
 use Rattle.slot.specs.declared.state.State.{State}
 use Rattle.slot.specs.declared.state.State.the-variants as S
 use Rattle.slot.specs.Number.{none}
-use Rattle.slot.specs.State.{isPresent, isOuter, isInner}
+use Rattle.slot.specs.State.{isPresent, isOuter}
 use Rattle.table.specs.Table.{Table, at}
-use Rattle.nodes.specs.Nodes.{isBlossom, present, outer, inner}
-use Rattle.rules.specs.Slots.{isNone, isSome, up, next}
+use Rattle.nodes.specs.Nodes.{outer, inner}
+use Rattle.rules.specs.Slots.{isSome, up, next}
 use Rattle.rules.specs.Walk.{walk, ends, isIn, allIn, allBelow}
-use Rattle.rules.specs.Sound.{_⇒_, children, isOuterChild, s5, nextInRing, ringOf, ringCloses, isInnerChild, ringHolds}
+use Rattle.rules.specs.Sound.{_⇒_, children, isOuterChild, s5, nextInRing, ringOf, isInnerChild, ringHolds}
 use Rattle.sound_walks.specs.Marks.{marked, Walked, marking, Judged, judgedOf, listEnded, listStep, hasRing, isRingNode, isOddRing, ringEnded, ringStep, sweep}
-use Rattle.sound_walks.proofs.Truth.{lie, by-cases, and-left, and-right, and-both, when, if-then, all-to, all-from, in-all, all-and}
+use Rattle.sound_walks.proofs.Truth.{by-cases, and-left, and-right, and-both, when, if-then, all-to, all-from, in-all, all-and}
 use Rattle.sound_walks.proofs.Walks.{good, marking-length, walk-length, marking-count, marking-seen}
 use Rattle.sound_walks.proofs.Sweeps.{pass-fine, pass-whole, pass-owner, fine-pass, fine-claim}
 use Rattle.sound_walks.proofs.Steps.{marking-end}
@@ -51,7 +51,6 @@ odd-unbroken false n h = refl
 -- ---- lists; only outer nodes have one
 
 module _ (t : Table) (bare : (i : ℕ) → outer t i ≡ false → at t i .firstChild ≡ none) where
-
   abbrev listFine : ℕ → Bool
   listFine i = good (next t) (isOuterChild t i) 256 (at t i .firstChild)
 
@@ -125,7 +124,6 @@ module _ (t : Table) (bare : (i : ℕ) → outer t i ≡ false → at t i .first
 -- ---- rings
 
 module _ (t : Table) where
-
   abbrev around : ℕ → ℕ → ℕ
   around b = nextInRing t (at t b .ring)
 

@@ -6,11 +6,10 @@ use Prim.Native.Nat.{ℕ, zero, suc, _+_, _-_, _≤_, _<_}
 use native.Mathlib.Decide.{ℕ-discrete, decLt}
 use native.Mathlib.Omega.{arith}
 use lib.Dec.{eqb, leb}
-use lib.ListN.{length, getD, set, replicate, length-replicate, getD-replicate, List·getD-eq-default}
+use lib.ListN.{length, getD, set, length-replicate, getD-replicate, List·getD-eq-default}
 use lib.Seq.{getD-set-same, getD-set-other, set-out}
-use borrow.Author.Tests.{eqb-true, eqb-false, leb-true, le-leb, not-true}
+use borrow.Author.Tests.{eqb-false, leb-true, le-leb, not-true}
 use Rattle.lists.specs.Choice.{pick}
-use Rattle.slot.specs.Number.{none}
 use Rattle.table.specs.Table.{Table}
 use Rattle.nodes.specs.Nodes.{inner}
 use Rattle.rules.specs.Slots.{isNone, up}

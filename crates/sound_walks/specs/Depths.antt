@@ -6,7 +6,7 @@ use lib.Dec.{eqb, leb}
 use lib.ListN.{getD, set}
 use Rattle.lists.specs.Choice.{pick}
 use Rattle.slot.specs.Number.{none}
-use Rattle.table.specs.Table.{Table, at}
+use Rattle.table.specs.Table.{Table}
 use Rattle.nodes.specs.Nodes.{inner}
 use Rattle.rules.specs.Slots.{isNone, up}
 use Rattle.sound_walks.specs.Marks.{marked, Judged, judgedOf}

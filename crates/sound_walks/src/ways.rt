@@ -27,7 +27,14 @@ fn way_step<'a>(t: &Table, listed: &'a [u8], ringed: &'a [u8], deep: &mut [u16],
 }
 
 // The slots from one number to before another.
-pub fn ways_hold<'a>(t: &Table, listed: &'a [u8], ringed: &'a [u8], deep: &mut [u16], from: u16, to: u16) -> bool
+pub fn ways_hold<'a>(
+    t: &Table,
+    listed: &'a [u8],
+    ringed: &'a [u8],
+    deep: &mut [u16],
+    from: u16,
+    to: u16,
+) -> bool
     ensures { λ r. ⌜ judgedOf r (now (deep .exit)) ≡ sweep (wayStep (tableOf (now (t .entry))) (now (listed .entry)) (now (ringed .entry))) (to - from) from (now (deep .entry)) ⌝ }
 {
     let mut i = from;
