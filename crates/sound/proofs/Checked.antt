@@ -1,65 +1,79 @@
--- The check and the rules: sizes, then each slot, then the passes over the slots given out.
+-- The check and the rules: sizes, then each slot by itself, then the passes along pointers.
 use mathlib.Core.Path.{_≡_, refl, sym, ap, _∙_}
+use mathlib.Core.Logic.{_≢_, _⊎_, inl, inr}
 use mathlib.Core.List.{List}
-use mathlib.Core.Bool.{Bool, true, false, _&&_, _||_, not, and-false}
-use Prim.Native.Nat.{ℕ, _+_, _-_, _≤_, _<_}
+use mathlib.Core.Bool.{Bool, true, false, _&&_, and-false}
+use Prim.Native.Nat.{ℕ, _+_, _*_, _-_, _≤_, _<_}
 use native.Mathlib.Decide.{decLt}
 use native.Mathlib.Omega.{arith}
-use lib.Dec.{leb, ltb}
-use borrow.Author.Tests.{leb-true, lt-leb, le-ltb}
-use Rattle.slot.specs.Number.{none}
-use Rattle.slot.specs.State.{isPresent, isInner}
+use lib.Dec.{T}
+use borrow.Author.Tests.{lt-leb, eqb-false}
+use Rattle.lists.proofs.Count.{length-count}
 use Rattle.slot.specs.declared.state.State.{State}
 use Rattle.slot.specs.declared.state.State.the-variants as S
-use Rattle.slot.specs.Slot.{Slot, emptySlot}
+use Rattle.slot.specs.Number.{none}
+use Rattle.slot.specs.Slot.{Slot, emptySlot, noLink}
+use Rattle.slot.specs.State.{isOuter, isInner}
 use Rattle.table.specs.Table.{Table, at}
-use Rattle.table.specs.Words.{tableOf}
-use Rattle.table.proofs.WordsOfSlots.{at-past}
-use Rattle.nodes.specs.Nodes.{isBlossom, present, outer, inner}
-use Rattle.rules.specs.Slots.{up, isDamaged}
-use Rattle.rules.specs.Sound.{_⇒_, sizesHold, isGiven, isBare, sound}
+use Rattle.table.specs.Words.{tableOf, slotFrom}
+use Rattle.table.proofs.Laws.{Full, at-out}
+use Rattle.nodes.specs.Nodes.{present, outer, inner}
+use Rattle.rules.specs.Slots.{isNone, sameLink, up}
+use Rattle.rules.specs.Walk.{ends}
+use Rattle.rules.specs.Sound.{_⇒_, S5, S6, S7, sizesHold, isBare, ringHolds, s5, s6, s7, sound}
+use Rattle.rules.specs.Facts.{Sizes, Given}
+use Rattle.rules.specs.FactsOfBlossoms.{PresentBlossom}
+use Rattle.rules.proofs.Reflect.{tests, true-test, test-true, test-false, and→, imp→, eqb-no}
+use Rattle.rules.proofs.ReflectSlots.{sameLink↔, outer-present, inner-present, outer-not-inner}
+use Rattle.rules.proofs.Past.{at-none, present-below}
+use Rattle.rules.proofs.ChildLaws.{above-outer}
+use Rattle.rules.proofs.Insides.{blossom↔}
+use Rattle.rules.proofs.SizesAndPointers.{sizes↔}
+use Rattle.rules.proofs.SoundParts.{sound→rule, sound→core, sound→rest}
 use Rattle.sound_slots.specs.Pass.{allFrom}
-use Rattle.sound_slots.specs.OneSlot.{slotHolds}
-use Rattle.sound_slots.proofs.Sorted.{sorted}
-use Rattle.sound_walks.specs.Marks.{Judged, judgedOf, listStep, ringStep, sweep, hasRing, claimed}
-use Rattle.sound_walks.specs.Depths.{depthStep}
-use Rattle.sound_walks.proofs.Truth.{lie, bool-ext, by-cases, and-left, and-right, and-both, when, range-to, range-from}
-use Rattle.sound_walks.proofs.Paths.{outer-present, list-skips, ring-skips, lists-right, rings-right, right-lists, right-listed, right-rings, right-ringed, claimed-listed, claimed-ringed, claimed-from}
-use Rattle.sound_walks.proofs.Ways.{depth-skips, reachesTop, ways-right}
-use Rattle.sound.specs.Given.{unseen, givenPass, blossomPass, claimsHold, pathsHold, waysHold}
-use Rattle.sound.proofs.Rules.{keepsState, Kept, rules-kept, kept-rules, Sound, sound-facts, facts-sound}
+use Rattle.sound_slots.specs.OneSlot.{slotHolds, isVacant, vacantOf, ringPlaced, ruleOf}
+use Rattle.sound_walks.specs.Marks.{Judged, listStep, ringStep, sweep, hasRing, marked}
+use Rattle.sound_walks.specs.Depths.{wayStep}
+use Rattle.sound_walks.proofs.Truth.{lie, bool-ext, and-left, and-right, and-both, when, range-to, range-from}
+use Rattle.sound_walks.proofs.Paths as walks
+use Rattle.sound_walks.proofs.WaysEnd.{wayFine, way-skips, ways-right, way-ringed, way-listed, way-reaches, way-from}
+use Rattle.sound.specs.Given.{unseen, eachHolds, givenPass, blossomPass, pathsHold}
+use Rattle.sound.proofs.SlotKinds.{undamaged, inner-child, inner-childless}
+use Rattle.sound.proofs.SlotsSound.{all-sound}
+use Rattle.sound.proofs.SlotTests.{slot-test, vacant-test}
 use Rattle.sound.proofs.Whole.{given-whole, blossoms-whole}
 
-inner-present : (s : State) → isInner s ≡ true → isPresent s ≡ true
-inner-present S.Empty h = h
-inner-present S.Inner h = refl
-inner-present S.Stay h = refl
-inner-present S.Grow h = refl
-inner-present S.Shrink h = refl
-inner-present S.Damaged h = refl
+-- an empty slot that stores none throughout is the empty slot
+bare→ : (s : Slot) → s .state ≡ S.Empty → T (isBare s) → s ≡ emptySlot
+bare→ s e h =
+    let r = and→ (isNone (s .parent) && isNone (s .firstChild) && isNone (s .sibling) && isNone (s .ring)) (sameLink (s .link) noLink) h in
+    let q = simp tests at (r .0) in
+    let l = sameLink↔ (s .link) noLink .0 (r .1) in
+    λ i. record { state = e i; parent = q .0 .0 .0 i; firstChild = q .0 .0 .1 i; sibling = q .0 .1 i; ring = q .1 i; link = l i }
+
+vacant→ : (t : Table) (n : ℕ) → T (isVacant t n) → at t n ≡ emptySlot
+unfolding isVacant
+vacant→ t n h = go (at t n .state) refl h
+  where
+    go : (x : State) → at t n .state ≡ x → T (vacantOf x (at t n)) → at t n ≡ emptySlot
+    go S.Empty e h = bare→ (at t n) e h
+    go S.Inner e h = absurd h
+    go S.Stay e h = absurd h
+    go S.Grow e h = absurd h
+    go S.Shrink e h = absurd h
+    go S.Damaged e h = absurd h
+
+judged-empty→ : (t : Table) (n : ℕ) → T (slotHolds t n) → at t n .state ≡ S.Empty → at t n ≡ emptySlot
+unfolding slotHolds
+judged-empty→ t n h e = bare→ (at t n) e (rw e at (and→ (ringPlaced t n (at t n .ring)) (ruleOf (at t n .state) t n (at t n)) h .1))
 
 module _ (ws : List ℕ) where
   abbrev tab : Table
   tab = tableOf ws
 
-  past : at tab none ≡ emptySlot
-  past = sym (at-past ws none (omega arith))
-
-  -- only slots of the table are present
-  bound : (n : ℕ) → present tab n ≡ true → n < 256
-  bound n h = go (decLt n 256)
-    where
-      go : Dec (n < 256) → n < 256
-      go (yes u) = u
-      go (no u) = lie (ap (λ (s : Slot). isPresent (s .state)) (at-past ws n (omega arith)) ∙ h)
-
-  pub sizes-fail : sizesHold tab ≡ false → false ≡ sound tab
-  sizes-fail h = bool-ext false (sound tab) (λ e. lie e) (λ e. sym h ∙ sound-facts tab e .sizes)
-
-  pub slots-fail : allFrom (slotHolds tab) 256 0 ≡ false → false ≡ sound tab
-  slots-fail h =
-      bool-ext false (sound tab) (λ e. lie e)
-      (λ e. sym h ∙ range-from (slotHolds tab) 256 0 (λ n p q. sorted tab n past ∙ kept-rules tab n (sound-facts tab e .kept n (omega arith))))
+  full : Full tab
+  unfolding tableOf
+  full = length-count (λ i. slotFrom ws (i * 11)) 0 256
 
   abbrev d : ℕ
   d = tab .defects
@@ -70,75 +84,117 @@ module _ (ws : List ℕ) where
   abbrev e : ℕ
   e = tab .begin + tab .blossoms
 
-  module _ (sizes : sizesHold tab ≡ true) where
-    few : leb d b ≡ true
-    few = and-right (leb 1 b && leb b 256) (leb d b) (and-left (leb 1 b && leb b 256 && leb d b) (leb e 256) sizes)
+  pub sizes-fail : sizesHold tab ≡ false → false ≡ sound tab
+  sizes-fail h =
+      bool-ext false (sound tab) (λ u. lie u)
+      (λ u. sym h ∙ test-true (sizesHold tab) (sizes↔ tab .1 (sound→rest tab full (true-test (sound tab) u) .sizes)))
 
-    pub defects-below : d ≤ b
-    defects-below = leb-true d b few
+  module _ (sizes : sizesHold tab ≡ true) where
+    sized : Sizes tab
+    sized = sizes↔ tab .0 (true-test (sizesHold tab) sizes)
 
     pub end-below : e ≤ 256
-    end-below = leb-true e 256 (and-right (leb 1 b && leb b 256 && leb d b) (leb e 256) sizes)
+    end-below = sized .blossoms-fit
 
-    module _ (slots : allFrom (slotHolds tab) 256 0 ≡ true) where
-      kept : (n : ℕ) → n < 256 → Kept tab n
-      kept n q = rules-kept tab n (sym (sorted tab n past) ∙ range-to (slotHolds tab) 256 0 n slots (omega arith) (omega arith))
+    few : d ≤ b
+    few = sized .defects-fit
 
-      -- past the counts nothing is present
-      absent : (h : ℕ) → h < 256 → isGiven tab h ≡ false → present tab h ≡ false
-      absent h q g =
-          by-cases (present tab h)
-          (λ p.
-          lie
-          (sym g
-          ∙ when (present tab h) (isGiven tab h)
-          (and-right (not (isDamaged (at tab h .state))) (present tab h ⇒ isGiven tab h)
-          (and-left (not (isDamaged (at tab h .state)) && (present tab h ⇒ isGiven tab h)) _
-          (and-left (not (isDamaged (at tab h .state)) && (present tab h ⇒ isGiven tab h) && (not (present tab h) ⇒ isBare (at tab h))) _ (kept h q .state))))
-          p))
-          (λ p. p)
+    -- ---- a sound table passes each slot's test
 
-      between : (h : ℕ) → d ≤ h → h < b → present tab h ≡ false
-      between h p q =
-          let r : e ≤ 256 = end-below in
-          absent h (omega arith) (rw (le-ltb h d p, lt-leb b h q))
+    module _ (s : T (sound tab)) where
+      between-ungiven : (n : ℕ) → d ≤ n → n < b → ¬ Given tab n
+      between-ungiven n p q (inl u) = omega arith
+      between-ungiven n p q (inr u) = omega (arith, u .0)
 
-      after : (h : ℕ) → e ≤ h → h < 256 → present tab h ≡ false
-      after h p q =
-          let r : d ≤ b = defects-below in
-          absent h q (rw (le-ltb h d (omega arith), le-ltb h e p, and-false))
+      after-ungiven : (n : ℕ) → e ≤ n → ¬ Given tab n
+      after-ungiven n p (inl u) = omega (arith, few)
+      after-ungiven n p (inr u) = omega (arith, u .1)
 
-      not-outer : (h : ℕ) → present tab h ≡ false → outer tab h ≡ false
-      not-outer h p = by-cases (outer tab h) (λ o. lie (sym p ∙ outer-present (at tab h .state) o)) (λ o. o)
+      each-from : eachHolds tab d b e ≡ true
+      unfolding eachHolds
+      each-from =
+          let p = range-from (slotHolds tab) (d - 0) 0 (λ j _ _. test-true (slotHolds tab j) (slot-test tab full s j)) in
+          let q = range-from (isVacant tab) (b - d) d (λ j l m. let f = few in test-true (isVacant tab j) (vacant-test tab full s j (between-ungiven j l (omega arith)))) in
+          let r = range-from (slotHolds tab) (e - b) b (λ j _ _. test-true (slotHolds tab j) (slot-test tab full s j)) in
+          let v = range-from (isVacant tab) (256 - e) e (λ j l _. test-true (isVacant tab j) (vacant-test tab full s j (after-ungiven j l))) in
+          rw (p, q, r, v)
 
-      not-ringed : (h : ℕ) → present tab h ≡ false → hasRing tab h ≡ false
-      not-ringed h p = rw (p, and-false)
+    pub each-fail : eachHolds tab d b e ≡ false → false ≡ sound tab
+    each-fail h = bool-ext false (sound tab) (λ u. lie u) (λ u. sym h ∙ each-from (true-test (sound tab) u))
 
-      no-blossom : (h : ℕ) → h < b → hasRing tab h ≡ false
-      no-blossom h q = rw (lt-leb b h q)
+    -- ---- what the tests of the slots say
+
+    module _ (each : eachHolds tab d b e ≡ true) where
+      parts : (allFrom (slotHolds tab) (d - 0) 0 ≡ true) × (allFrom (isVacant tab) (b - d) d ≡ true) × (allFrom (slotHolds tab) (e - b) b ≡ true) × (allFrom (isVacant tab) (256 - e) e ≡ true)
+      unfolding eachHolds
+      parts =
+          let h = and-left (allFrom (slotHolds tab) (d - 0) 0 && allFrom (isVacant tab) (b - d) d && allFrom (slotHolds tab) (e - b) b) (allFrom (isVacant tab) (256 - e) e) each in
+          let k = and-left (allFrom (slotHolds tab) (d - 0) 0 && allFrom (isVacant tab) (b - d) d) (allFrom (slotHolds tab) (e - b) b) h in (
+            and-left (allFrom (slotHolds tab) (d - 0) 0) (allFrom (isVacant tab) (b - d) d) k,
+            and-right (allFrom (slotHolds tab) (d - 0) 0) (allFrom (isVacant tab) (b - d) d) k,
+            and-right (allFrom (slotHolds tab) (d - 0) 0 && allFrom (isVacant tab) (b - d) d) (allFrom (slotHolds tab) (e - b) b) h,
+            and-right (allFrom (slotHolds tab) (d - 0) 0 && allFrom (isVacant tab) (b - d) d && allFrom (slotHolds tab) (e - b) b) (allFrom (isVacant tab) (256 - e) e) each,
+          )
+
+      between : (n : ℕ) → d ≤ n → n < b → at tab n ≡ emptySlot
+      between n p q = vacant→ tab n (true-test (isVacant tab n) (range-to (isVacant tab) (b - d) d n (parts .1) p (omega arith)))
+
+      after : (n : ℕ) → e ≤ n → n < 256 → at tab n ≡ emptySlot
+      after n p q = vacant→ tab n (true-test (isVacant tab n) (range-to (isVacant tab) (256 - e) e n (parts .3) p (omega arith)))
+
+      -- given out and judged, or empty
+      place : (n : ℕ) → (Given tab n × T (slotHolds tab n)) ⊎ (at tab n ≡ emptySlot)
+      place n = go (decLt n d) (decLt n b) (decLt n e) (decLt n 256)
+        where
+          go : Dec (n < d) → Dec (n < b) → Dec (n < e) → Dec (n < 256) → (Given tab n × T (slotHolds tab n)) ⊎ (at tab n ≡ emptySlot)
+          go (yes u) v w x = inl (inl u, true-test (slotHolds tab n) (range-to (slotHolds tab) (d - 0) 0 n (parts .0) (omega arith) (omega arith)))
+          go (no u) (yes v) w x = inr (between n (omega arith) v)
+          go (no u) (no v) (yes w) x = inl (inr (omega arith, w), true-test (slotHolds tab n) (range-to (slotHolds tab) (e - b) b n (parts .2) (omega arith) (omega arith)))
+          go (no u) (no v) (no w) (yes x) = inr (after n (omega arith) x)
+          go (no u) (no v) (no w) (no x) = inr (at-out tab n full (omega arith))
+
+      absent : (n : ℕ) → at tab n ≡ emptySlot → ¬ T (present tab n)
+      absent n z p = rw z at p
+
+      judged : (n : ℕ) → T (present tab n) → T (slotHolds tab n)
+      judged n p = elim (place n) [ inl u ↦ u .1 | inr z ↦ absurd (absent n z p) ]
+
+      given : (n : ℕ) → T (present tab n) → Given tab n
+      given n p = elim (place n) [ inl u ↦ u .0 | inr z ↦ absurd (absent n z p) ]
+
+      empty : (n : ℕ) → at tab n .state ≡ S.Empty → at tab n ≡ emptySlot
+      empty n h = elim (place n) [ inl u ↦ judged-empty→ tab n (u .1) h | inr z ↦ z ]
+
+      -- only outer nodes have children
+      bare : (n : ℕ) → outer tab n ≡ false → at tab n .firstChild ≡ none
+      bare n o = go (at tab n .state) refl o
+        where
+          go : (x : State) → at tab n .state ≡ x → isOuter x ≡ false → at tab n .firstChild ≡ none
+          go S.Empty h o = ap (λ (s : Slot). s .firstChild) (empty n h)
+          go S.Inner h o = inner-childless tab full sized judged empty n (rw h tt)
+          go S.Stay h o = lie (sym o)
+          go S.Grow h o = lie (sym o)
+          go S.Shrink h o = lie (sym o)
+          go S.Damaged h o = absurd (undamaged tab full sized judged empty n h)
 
       -- so a pass over the slots given out is a pass over all
       lists-whole : givenPass (listStep tab) d b e ≡ sweep (listStep tab) 256 0 unseen
       lists-whole =
-          given-whole (listStep tab) d b e defects-below (omega arith) end-below
-          (λ h p q l. list-skips tab h l (not-outer h (after h p q)))
-          (λ h p q l. list-skips tab h l (not-outer h (between h p q)))
-
-      ways-whole : givenPass (depthStep tab) d b e ≡ sweep (depthStep tab) 256 0 unseen
-      ways-whole =
-          given-whole (depthStep tab) d b e defects-below (omega arith) end-below
-          (λ h p q l. depth-skips tab h l (not-outer h (after h p q)))
-          (λ h p q l. depth-skips tab h l (not-outer h (between h p q)))
+          given-whole (listStep tab) d b e few (omega arith) end-below
+          (λ h p q l. walks.list-skips tab bare h l (rw (after h p q)))
+          (λ h p q l. walks.list-skips tab bare h l (rw (between h p q)))
 
       rings-whole : blossomPass (ringStep tab) b e ≡ sweep (ringStep tab) 256 0 unseen
       rings-whole =
-          blossoms-whole (ringStep tab) d b e defects-below (omega arith) end-below
-          (λ h p q l. ring-skips tab h l (not-ringed h (after h p q)))
-          (λ h q l. ring-skips tab h l (no-blossom h q))
+          blossoms-whole (ringStep tab) d b e few (omega arith) end-below
+          (λ h p q l. walks.ring-skips tab h l (rw (after h p q, and-false)))
+          (λ h q l. walks.ring-skips tab h l (rw (lt-leb b h q)))
 
-      ways-all : waysHold tab d b e ≡ allFrom (reachesTop tab) 256 0
-      unfolding waysHold
-      ways-all = ap (λ (w : Judged). w .ok) ways-whole ∙ ways-right tab
+      ways-whole : (l m : List ℕ) → givenPass (wayStep tab l m) d b e ≡ sweep (wayStep tab l m) 256 0 unseen
+      ways-whole l m =
+          given-whole (wayStep tab l m) d b e few (omega arith) end-below
+          (λ h p q deep. way-skips tab l m h deep (ap (λ (s : Slot). isNone (s .parent)) (after h p q)))
+          (λ h p q deep. way-skips tab l m h deep (ap (λ (s : Slot). isNone (s .parent)) (between h p q)))
 
       abbrev listed : Judged
       listed = sweep (listStep tab) 256 0 unseen
@@ -146,84 +202,138 @@ module _ (ws : List ℕ) where
       abbrev ringed : Judged
       ringed = sweep (ringStep tab) 256 0 unseen
 
-      paths-all : pathsHold tab d b e ≡ (listed .ok && ringed .ok && claimsHold tab d b e (listed .seen) (ringed .seen))
+      abbrev fine : ℕ → Bool
+      fine = wayFine tab (listed .seen) (ringed .seen)
+
+      paths-all : pathsHold tab d b e ≡ (listed .ok && ringed .ok && allFrom fine 256 0)
       unfolding pathsHold
-      paths-all = rw (lists-whole, rings-whole)
+      paths-all = rw (lists-whole, rings-whole, ways-whole (listed .seen) (ringed .seen), ways-right tab (listed .seen) (ringed .seen))
 
-      -- an empty slot has no owner
-      empty-claimed : (l m : List ℕ) (j : ℕ) → present tab j ≡ false → claimed tab l m j ≡ true
-      empty-claimed l m j p =
-          claimed-from tab l m j (λ o. lie (sym (not-outer j p) ∙ o)) (λ o. lie (sym p ∙ inner-present (at tab j .state) o))
+      up-below : (n : ℕ) → present tab n ≡ true → n < 256
+      up-below n p = present-below tab full n (true-test (present tab n) p)
 
-      claims-all : (l m : List ℕ) → claimsHold tab d b e l m ≡ true → (j : ℕ) → j < 256 → claimed tab l m j ≡ true
-      unfolding claimsHold
-      claims-all l m h j q = go (decLt j d) (decLt j b) (decLt j e)
-        where
-          low : allFrom (claimed tab l m) (d - 0) 0 ≡ true
-          low = and-left (allFrom (claimed tab l m) (d - 0) 0) _ h
+      some-parent : (j : ℕ) → T (present tab (up tab j)) → isNone (up tab j) ≡ false
+      some-parent j p = eqb-no (up tab j) none (λ z. let q : T (present tab none) = rw z at p in absurd (rw (at-none tab full) at q))
 
-          high : allFrom (claimed tab l m) (e - b) b ≡ true
-          high = and-right (allFrom (claimed tab l m) (d - 0) 0) _ h
+      outer-only : (j : ℕ) → outer tab j ≡ true → inner tab j ≡ false
+      outer-only j o = test-false (inner tab j) (outer-not-inner (at tab j .state) (true-test (outer tab j) o))
 
-          go : Dec (j < d) → Dec (j < b) → Dec (j < e) → claimed tab l m j ≡ true
-          go (yes u) v w = range-to (claimed tab l m) (d - 0) 0 j low (omega arith) (omega arith)
-          go (no u) (yes v) w = empty-claimed l m j (between j (omega arith) v)
-          go (no u) (no v) (yes w) = range-to (claimed tab l m) (e - b) b j high (omega arith) (omega arith)
-          go (no u) (no v) (no w) = empty-claimed l m j (after j (omega arith) q)
+      -- ---- the passes find what the rules ask
 
-      all-claims : (l m : List ℕ) → ((j : ℕ) → j < 256 → claimed tab l m j ≡ true) → claimsHold tab d b e l m ≡ true
-      unfolding claimsHold
-      all-claims l m h =
-          let r : e ≤ 256 = end-below in
-          let s : d ≤ b = defects-below in
-          and-both (allFrom (claimed tab l m) (d - 0) 0) (allFrom (claimed tab l m) (e - b) b)
-          (range-from (claimed tab l m) (d - 0) 0 (λ j p q. h j (omega arith)))
-          (range-from (claimed tab l m) (e - b) b (λ j p q. h j (omega arith)))
+      module _ (paths : pathsHold tab d b e ≡ true) where
+        found : (listed .ok ≡ true) × (ringed .ok ≡ true) × (allFrom fine 256 0 ≡ true)
+        found =
+            let h : (listed .ok && ringed .ok && allFrom fine 256 0) ≡ true = sym paths-all ∙ paths in
+            let k = and-left (listed .ok && ringed .ok) (allFrom fine 256 0) h in
+            (and-left (listed .ok) (ringed .ok) k, and-right (listed .ok) (ringed .ok) k, and-right (listed .ok && ringed .ok) (allFrom fine 256 0) h)
 
-      check-sound : pathsHold tab d b e ≡ true → waysHold tab d b e ≡ true → Sound tab
-      check-sound p w =
-          let p′ : (listed .ok && ringed .ok && claimsHold tab d b e (listed .seen) (ringed .seen)) ≡ true = sym paths-all ∙ p in
-          let oks : (listed .ok && ringed .ok) ≡ true = and-left (listed .ok && ringed .ok) _ p′ in
-          let claims : (j : ℕ) → j < 256 → claimed tab (listed .seen) (ringed .seen) j ≡ true = claims-all (listed .seen) (ringed .seen) (and-right (listed .ok && ringed .ok) _ p′) in
-          record {
-            sizes = sizes;
-            kept = kept;
-            lists = lists-right tab (and-left (listed .ok) (ringed .ok) oks) (λ j q o u. claimed-listed tab (listed .seen) (ringed .seen) j (claims j q) o u);
-            rings = rings-right tab (and-right (listed .ok) (ringed .ok) oks) (λ j q o u. claimed-ringed tab (listed .seen) (ringed .seen) j (claims j q) o u);
-            ways = λ n q. range-to (reachesTop tab) 256 0 n (sym ways-all ∙ w) (omega arith) (omega arith);
-          }
+        fine-at : (n : ℕ) → n < 256 → fine n ≡ true
+        fine-at n q = range-to fine 256 0 n (found .2) (omega arith) (omega arith)
 
-      sound-paths : Sound tab → pathsHold tab d b e ≡ true
-      sound-paths s =
-          paths-all
-          ∙ and-both (listed .ok && ringed .ok) _
-          (and-both (listed .ok) (ringed .ok) (right-lists tab (s .lists)) (right-rings tab (s .rings)))
-          (all-claims (listed .seen) (ringed .seen)
-          (λ j q.
-          claimed-from tab (listed .seen) (ringed .seen) j
-          (λ o u. right-listed tab (s .lists) j q (bound (up tab j) (outer-present (at tab (up tab j) .state) u)) o u)
-          (λ o u. right-ringed tab (s .rings) j q (bound (up tab j) (and-right (isBlossom tab (up tab j)) (present tab (up tab j)) u)) o u)))
+        lists : (n : ℕ) → T (s5 tab n)
+        unfolding s5
+        lists n = go (decLt n 256)
+          where
+            go : Dec (n < 256) → T (s5 tab n)
+            go (yes q) =
+                true-test (s5 tab n)
+                (walks.lists-right tab bare (found .0)
+                (λ j r o u. way-listed tab (listed .seen) (ringed .seen) j (fine-at j r) (some-parent j (outer-present (at tab (up tab j) .state) (true-test (outer tab (up tab j)) u))) (outer-only j o))
+                n q)
+            go (no q) = simp (at-out tab n full (omega arith)) tt
 
-      sound-ways : Sound tab → waysHold tab d b e ≡ true
-      sound-ways s = ways-all ∙ range-from (reachesTop tab) 256 0 (λ n p q. s .ways n (omega arith))
+        inner-marked : (j : ℕ) → j < 256 → inner tab j ≡ true → marked (ringed .seen) j ≡ true
+        inner-marked j q i =
+            way-ringed tab (listed .seen) (ringed .seen) j (fine-at j q)
+            (eqb-no (up tab j) none (inner-child tab full sized judged empty j (true-test (inner tab j) i))) i
 
-      pub paths-fail : pathsHold tab d b e ≡ false → false ≡ sound tab
-      paths-fail h = bool-ext false (sound tab) (λ u. lie u) (λ u. sym h ∙ sound-paths (sound-facts tab u))
+        rings : (n : ℕ) → PresentBlossom tab n → T (ringHolds tab n)
+        rings n p =
+            let o : hasRing tab n ≡ true = test-true (hasRing tab n) (blossom↔ tab n .1 p) in
+            true-test (ringHolds tab n)
+            (when (hasRing tab n) (ringHolds tab n) (walks.rings-right tab (found .1) (λ j q i _. inner-marked j q i) n (present-below tab full n (p .there))) o)
 
-      pub ways-decide : pathsHold tab d b e ≡ true → waysHold tab d b e ≡ sound tab
-      ways-decide h =
-          bool-ext (waysHold tab d b e) (sound tab)
-          (λ u. facts-sound tab (check-sound h u))
-          (λ u. sound-ways (sound-facts tab u))
+        owner : (n : ℕ) → T (inner tab n) → up tab n ≢ none → PresentBlossom tab (up tab n)
+        owner n i _ =
+            let q = present-below tab full n (inner-present (at tab n .state) i) in
+            blossom↔ tab (up tab n) .0
+            (true-test (hasRing tab (up tab n)) (walks.ring-owner tab (found .1) n q (inner-marked n q (test-true (inner tab n) i))))
+
+        ways : (n : ℕ) → T (outer tab n) → T (ends 257 (up tab) n)
+        ways n o =
+            let q = present-below tab full n (outer-present (at tab n .state) o) in
+            true-test (ends 257 (up tab) n) (way-reaches tab (listed .seen) (ringed .seen) n (fine-at n q) (outer-only n (test-true (outer tab n) o)))
+
+        check-sound : sound tab ≡ true
+        check-sound = test-true (sound tab) (all-sound tab full sized judged empty given owner lists rings ways)
+
+      -- ---- and on a sound table they succeed
+
+      module _ (s : T (sound tab)) where
+        fifth : (n : ℕ) → n < 256 → s5 tab n ≡ true
+        fifth n q = test-true (s5 tab n) (sound→rule tab s S5 n q)
+
+        sixth : (n : ℕ) → n < 256 → (hasRing tab n ⇒ ringHolds tab n) ≡ true
+        unfolding s6
+        sixth n q = test-true (hasRing tab n ⇒ ringHolds tab n) (and→ (hasRing tab n ⇒ ringHolds tab n) _ (sound→rule tab s S6 n q) .0)
+
+        seventh : (n : ℕ) → n < 256 → T (outer tab n) → ends 257 (up tab) n ≡ true
+        unfolding s7
+        seventh n q o =
+            test-true (ends 257 (up tab) n)
+            (imp→ (outer tab n) (ends 257 (up tab) n) (and→ (outer tab n ⇒ ends 257 (up tab) n) _ (sound→rule tab s S7 n q) .0) o)
+
+        owned : (n : ℕ) → n < 256 → inner tab n ≡ true → marked (ringed .seen) n ≡ true
+        owned n q i =
+            let p = sound→rest tab full s .inners n (true-test (inner tab n) i) .parent in
+            walks.right-ringed tab sixth n q (present-below tab full (up tab n) (p .there)) i (test-true (hasRing tab (up tab n)) (blossom↔ tab (up tab n) .1 p))
+
+        outer-there : (n : ℕ) → isNone (up tab n) ≡ false → inner tab n ≡ false → T (outer tab n)
+        outer-there n u i = go (at tab n .state) refl i
+          where
+            go : (x : State) → at tab n .state ≡ x → isInner x ≡ false → T (outer tab n)
+            go S.Empty h i = absurd (eqb-false (up tab n) none u (ap (λ (z : Slot). z .parent) (empty n h)))
+            go S.Inner h i = lie (sym i)
+            go S.Stay h i = rw h tt
+            go S.Grow h i = rw h tt
+            go S.Shrink h i = rw h tt
+            go S.Damaged h i = absurd (undamaged tab full sized judged empty n h)
+
+        on-list : (n : ℕ) → n < 256 → isNone (up tab n) ≡ false → inner tab n ≡ false → (marked (listed .seen) n ≡ true) × (ends 257 (up tab) n ≡ true)
+        on-list n q u i =
+            let o = outer-there n u i in
+            let a : T (outer tab (up tab n)) = above-outer tab full (sound→core tab full s) n o (eqb-false (up tab n) none u) in (
+              walks.right-listed tab bare fifth n q (present-below tab full (up tab n) (outer-present (at tab (up tab n) .state) a)) (test-true (outer tab n) o) (test-true (outer tab (up tab n)) a),
+              seventh n q o,
+            )
+
+        sound-paths : pathsHold tab d b e ≡ true
+        sound-paths =
+            paths-all
+            ∙ and-both (listed .ok && ringed .ok) (allFrom fine 256 0)
+            (and-both (listed .ok) (ringed .ok) (walks.right-lists tab bare fifth) (walks.right-rings tab sixth))
+            (range-from fine 256 0
+            (λ n _ q. way-from tab (listed .seen) (ringed .seen) n (λ _ i. owned n (omega arith) i) (λ u i. on-list n (omega arith) u i)))
+
+      pub paths-decide : pathsHold tab d b e ≡ sound tab
+      paths-decide =
+          bool-ext (pathsHold tab d b e) (sound tab)
+          (λ h. check-sound h)
+          (λ h. sound-paths (true-test (sound tab) h))
 
 -- ---- the steps of the code
 
-module _ (ws : List ℕ) (x y : Bool) (p : x ≡ sizesHold (tableOf ws)) (f : x ≡ true) (q : y ≡ allFrom (slotHolds (tableOf ws)) 256 0) (g : y ≡ true) (defects begin blossoms : ℕ) (u : defects ≡ tableOf ws .defects) (v : begin ≡ tableOf ws .begin) (w : blossoms ≡ tableOf ws .blossoms) where
-  pub end-fits : begin + blossoms ≤ 256
-  end-fits = rw (v, w) (end-below ws (sym p ∙ f))
+module _ (ws : List ℕ) (x : Bool) (p : x ≡ sizesHold (tableOf ws)) where
+  pub sizes-no : x ≡ false → false ≡ sound (tableOf ws)
+  sizes-no h = sizes-fail ws (sym p ∙ h)
 
-  pub paths-no : (r : Bool) → r ≡ pathsHold (tableOf ws) defects begin (begin + blossoms) → r ≡ false → false ≡ sound (tableOf ws)
-  paths-no r s h = paths-fail ws (sym p ∙ f) (sym q ∙ g) (rw (u, v, w) at (sym s ∙ h))
+  module _ (f : x ≡ true) (defects begin blossoms : ℕ) (u : defects ≡ tableOf ws .defects) (v : begin ≡ tableOf ws .begin) (w : blossoms ≡ tableOf ws .blossoms) where
+    pub end-fits : begin + blossoms ≤ 256
+    end-fits = rw (v, w) (end-below ws (sym p ∙ f))
 
-  pub ways-answer : (r z : Bool) → r ≡ pathsHold (tableOf ws) defects begin (begin + blossoms) → r ≡ true → z ≡ waysHold (tableOf ws) defects begin (begin + blossoms) → z ≡ sound (tableOf ws)
-  ways-answer r z s h k = (rw (u, v, w) at k) ∙ ways-decide ws (sym p ∙ f) (sym q ∙ g) (rw (u, v, w) at (sym s ∙ h))
+    module _ (y : Bool) (q : y ≡ eachHolds (tableOf ws) defects begin (begin + blossoms)) where
+      pub each-no : y ≡ false → false ≡ sound (tableOf ws)
+      each-no h = each-fail ws (sym p ∙ f) (rw (u, v, w) at (sym q ∙ h))
+
+      pub paths-answer : (z : Bool) → y ≡ true → z ≡ pathsHold (tableOf ws) defects begin (begin + blossoms) → z ≡ sound (tableOf ws)
+      paths-answer z h k = (rw (u, v, w) at k) ∙ paths-decide ws (sym p ∙ f) (rw (u, v, w) at (sym q ∙ h))

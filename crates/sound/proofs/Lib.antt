@@ -1,4 +1,6 @@
 pub mod Steps
 pub mod Whole
-pub mod Rules
+pub mod SlotKinds
+pub mod SlotsSound
+pub mod SlotTests
 pub mod Checked

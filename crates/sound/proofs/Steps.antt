@@ -1,14 +1,37 @@
--- The passes over the slots given out, step by step as the code takes them.
-use mathlib.Core.Path.{_≡_, refl, sym, ap, _∙_}
+-- The check over the slots given out, step by step as the code takes it.
+use mathlib.Core.Path.{_≡_, _∙_}
 use mathlib.Core.List.{List}
-use mathlib.Core.Bool.{Bool, true, false, _&&_, and-false}
+use mathlib.Core.Bool.{Bool, true, false}
 use Prim.Native.Nat.{ℕ, _-_}
-use Rattle.lists.specs.Choice.{pick}
 use Rattle.table.specs.Table.{Table}
 use Rattle.sound_slots.specs.Pass.{allFrom}
-use Rattle.sound_walks.specs.Marks.{Judged, judgedOf, listStep, ringStep, sweep, claimed}
-use Rattle.sound_walks.specs.Depths.{depthStep}
-use Rattle.sound.specs.Given.{unseen, givenPass, blossomPass, claimsHold, pathsHold, waysHold}
+use Rattle.sound_slots.specs.OneSlot.{slotHolds, isVacant}
+use Rattle.sound_walks.specs.Marks.{Judged, judgedOf, listStep, ringStep, sweep}
+use Rattle.sound_walks.specs.Depths.{wayStep}
+use Rattle.sound.specs.Given.{unseen, eachHolds, givenPass, blossomPass, pathsHold}
+
+-- ---- each slot by itself
+
+module _ (t : Table) (d b e : ℕ) (w : Bool) (p : w ≡ allFrom (slotHolds t) (d - 0) 0) where
+  pub defects-fail : w ≡ false → false ≡ eachHolds t d b e
+  unfolding eachHolds
+  defects-fail h = rw (← p, h)
+
+  module _ (f : w ≡ true) (x : Bool) (q : x ≡ allFrom (isVacant t) (b - d) d) where
+    pub gap-fails : x ≡ false → false ≡ eachHolds t d b e
+    unfolding eachHolds
+    gap-fails h = rw (← p, f, ← q, h)
+
+    module _ (g : x ≡ true) (y : Bool) (r : y ≡ allFrom (slotHolds t) (e - b) b) where
+      pub blossoms-fail : y ≡ false → false ≡ eachHolds t d b e
+      unfolding eachHolds
+      blossoms-fail h = rw (← p, f, ← q, g, ← r, h)
+
+      pub end-decides : (z : Bool) → y ≡ true → z ≡ allFrom (isVacant t) (256 - e) e → z ≡ eachHolds t d b e
+      unfolding eachHolds
+      end-decides z h s = s ∙ rw (← p, f, ← q, g, ← r, h)
+
+-- ---- passes
 
 module _ (step : ℕ → List ℕ → Judged) (d b e : ℕ) (r : Bool) (l : List ℕ) (p : judgedOf r l ≡ sweep step (d - 0) 0 unseen) where
   -- the first part fails
@@ -34,19 +57,11 @@ module _ (t : Table) (d b e : ℕ) where
     unfolding pathsHold
     rings-fail g = rw (← p, ← q, h, g)
 
-    module _ (g : s ≡ true) (x : Bool) (u : x ≡ allFrom (claimed t l m) (d - 0) 0) where
-      pub claims-fail : x ≡ false → false ≡ pathsHold t d b e
-      unfolding pathsHold claimsHold
-      claims-fail v = rw (← p, ← q, h, g, ← u, v)
+    module _ (g : s ≡ true) where
+      pub ways-fail : givenPass (wayStep t l m) d b e .ok ≡ false → false ≡ pathsHold t d b e
+      unfolding pathsHold
+      ways-fail f = rw (← p, ← q, h, g, f)
 
-      pub claims-judge : (y : Bool) → x ≡ true → y ≡ allFrom (claimed t l m) (e - b) b → y ≡ pathsHold t d b e
-      unfolding pathsHold claimsHold
-      claims-judge y v w = rw (← p, ← q, h, g, ← u, v, ← w)
-
-  pub ways-fail : givenPass (depthStep t) d b e .ok ≡ false → false ≡ waysHold t d b e
-  unfolding waysHold
-  ways-fail h = sym h
-
-  pub ways-judge : (r : Bool) (l : List ℕ) → judgedOf r l ≡ givenPass (depthStep t) d b e → r ≡ waysHold t d b e
-  unfolding waysHold
-  ways-judge r l p = ap (λ (w : Judged). w .ok) p
+      pub ways-judge : (y : Bool) (deep : List ℕ) → judgedOf y deep ≡ givenPass (wayStep t l m) d b e → y ≡ pathsHold t d b e
+      unfolding pathsHold
+      ways-judge y deep u = rw (← p, ← q, h, g, ← u)

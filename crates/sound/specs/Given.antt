@@ -1,4 +1,4 @@
--- The passes along pointers over the slots that are given out: below d, and from b to before e.
+-- The check, over the slots that are given out, below d and from b to before e, and the others.
 use Prim.Native.Nat.{ℕ, _-_}
 use mathlib.Core.Bool.{Bool, _&&_}
 use mathlib.Core.List.{List}
@@ -6,11 +6,20 @@ use lib.ListN.{replicate}
 use Rattle.lists.specs.Choice.{pick}
 use Rattle.table.specs.Table.{Table}
 use Rattle.sound_slots.specs.Pass.{allFrom}
-use Rattle.sound_walks.specs.Marks.{Judged, listStep, ringStep, sweep, claimed}
-use Rattle.sound_walks.specs.Depths.{depthStep}
+use Rattle.sound_slots.specs.OneSlot.{slotHolds, isVacant}
+use Rattle.sound_walks.specs.Marks.{Judged, listStep, ringStep, sweep}
+use Rattle.sound_walks.specs.Depths.{wayStep}
 
 abbrev pub unseen : List ℕ
 unseen = replicate 256 0
+
+-- each slot by itself
+unfoldable pub eachHolds : Table → ℕ → ℕ → ℕ → Bool
+eachHolds t d b e =
+    allFrom (slotHolds t) (d - 0) 0
+    && allFrom (isVacant t) (b - d) d
+    && allFrom (slotHolds t) (e - b) b
+    && allFrom (isVacant t) (256 - e) e
 
 unfoldable pub givenPass : (ℕ → List ℕ → Judged) → ℕ → ℕ → ℕ → Judged
 givenPass step d b e =
@@ -21,14 +30,9 @@ givenPass step d b e =
 unfoldable pub blossomPass : (ℕ → List ℕ → Judged) → ℕ → ℕ → Judged
 blossomPass step b e = sweep step (e - b) b unseen
 
-unfoldable pub claimsHold : Table → ℕ → ℕ → ℕ → List ℕ → List ℕ → Bool
-claimsHold t d b e l m = allFrom (claimed t l m) (d - 0) 0 && allFrom (claimed t l m) (e - b) b
-
+-- with the marks that lists and rings leave, the last pass
 unfoldable pub pathsHold : Table → ℕ → ℕ → ℕ → Bool
 pathsHold t d b e =
     givenPass (listStep t) d b e .ok
     && blossomPass (ringStep t) b e .ok
-    && claimsHold t d b e (givenPass (listStep t) d b e .seen) (blossomPass (ringStep t) b e .seen)
-
-unfoldable pub waysHold : Table → ℕ → ℕ → ℕ → Bool
-waysHold t d b e = givenPass (depthStep t) d b e .ok
+    && givenPass (wayStep t (givenPass (listStep t) d b e .seen) (blossomPass (ringStep t) b e .seen)) d b e .ok

@@ -1,72 +1,113 @@
 -- Steps of the code that branch: what was found so far, in the code's order, and then the function's own promise.
-use mathlib.Core.Path.{_≡_, refl, sym, ap, _∙_}
-use mathlib.Core.Bool.{Bool, true, false, _&&_, _||_, not}
-use Prim.Native.Nat.{ℕ, _+_, _≤_, _<_}
-use native.Mathlib.Omega.{arith}
-use lib.Dec.{eqb, leb, ltb}
-use borrow.Author.Tests.{eq-eqb, ne-eqb, lt-ltb, le-ltb}
+use mathlib.Core.Path.{_≡_, sym, ap, _∙_}
+use mathlib.Core.Bool.{Bool, true, false, _&&_, not}
+use Prim.Native.Nat.{ℕ, _≤_, _<_}
+use lib.Dec.{eqb}
+use borrow.Author.Tests.{eq-eqb, lt-ltb, le-ltb}
 use Rattle.slot.specs.declared.state.State.{State}
-use Rattle.slot.specs.Number.{none}
-use Rattle.slot.specs.Slot.{Link, Slot, mirror}
+use Rattle.slot.specs.Slot.{Link, Slot, noLink, mirror}
 use Rattle.table.specs.Table.{Table, at}
-use Rattle.nodes.specs.Climb.{inside}
-use Rattle.rules.specs.Slots.{isNone, isSome, isFull, sameLink, isStay, isGrow, next}
-use Rattle.rules.specs.Sound.{isGiven}
-use Rattle.sound_slots.specs.OneSlot.{touchHolds, touchesHold, commonHolds, pairHolds, shrinkHolds, ruleOf, slotHolds}
+use Rattle.nodes.specs.Climb.{insideWithin, inside}
+use Rattle.rules.specs.Slots.{isNone, isSome, sameLink, isGrow, isShrink, next}
+use Rattle.rules.specs.Sound.{isDefectInside}
+use Rattle.sound_slots.specs.OneSlot.{isThrough, touchesHold, ringPlaced, pointsBack, pairHolds, growHolds, shrinkHolds, ruleOf, slotHolds, vacantOf, isVacant}
 
-module _ (t : Table) (n b d : ℕ) (p : b ≡ t .begin) (q : d ≡ t .defects) where
-  pub given-defect : n < d → true ≡ isGiven t n
-  given-defect h = rw (← q, lt-ltb n d h)
+-- a test that fails decides; one that holds leaves the rest to decide
+pub stops : (a b : Bool) → a ≡ false → false ≡ (a && b)
+stops a b h = rw h
 
-  pub given-blossom : (e : ℕ) (r : Bool) → d ≤ n → e ≡ t .begin + t .blossoms → r ≡ (leb b n && ltb n e) → r ≡ isGiven t n
-  given-blossom e r h u v = v ∙ rw (p, u, ← q, le-ltb n d h)
+pub goes : (a b r : Bool) → a ≡ true → r ≡ b → r ≡ (a && b)
+goes a b r h e = e ∙ rw h
 
-module _ (t : Table) (x n : ℕ) where
-  pub touch-none : n ≡ none → true ≡ touchHolds t x n
-  touch-none h = rw (eq-eqb n none h)
+-- tests put together one after another
+module _ (p q a b x y : Bool) (e : p ≡ q) (f : x ≡ (p && a)) (g : y ≡ (x && b)) where
+  pub joined : y ≡ (q && a && b)
+  joined = rw (g, f, e)
 
-  pub touch-blossom : (b : ℕ) → (n ≡ none → ⊥) → b ≡ t .begin → b ≤ n → false ≡ touchHolds t x n
-  touch-blossom b h p q = rw (ne-eqb n none h, ← p, le-ltb n b q)
+  pub joined-more : (c z : Bool) → z ≡ (y && c) → z ≡ (q && a && b && c)
+  joined-more c z h = rw (h, joined)
 
-  pub touch-climbs : (b : ℕ) (r : Bool) → (n ≡ none → ⊥) → b ≡ t .begin → n < b → r ≡ inside t x n → r ≡ touchHolds t x n
-  touch-climbs b r h p q e = e ∙ rw (ne-eqb n none h, ← p, lt-ltb n b q)
+-- a Grow node with a sibling, and one without a parent
+module _ (t : Table) (n : ℕ) (s : Slot) where
+  pub sibling-stops : isNone (s .sibling) ≡ false → false ≡ growHolds t n s
+  unfolding growHolds
+  sibling-stops h = stops _ _ h
+
+  pub top-decides : (r : Bool) → isNone (s .sibling) ≡ true → isNone (s .parent) ≡ true → r ≡ sameLink (s .link) noLink → r ≡ growHolds t n s
+  unfolding growHolds
+  top-decides r h u e = goes _ _ _ h (rw u e)
+
+-- + and − nodes, by the state of their parent
+module _ (t : Table) (n : ℕ) (s : Slot) (above : State) (e : above ≡ at t (s .parent) .state) (through : Bool) (f : through ≡ isThrough (s .link)) where
+  module _ (top : isNone (s .sibling) ≡ true) (some : isNone (s .parent) ≡ false) (shrinks r : Bool) (g : shrinks ≡ isShrink above) (h : r ≡ (through && shrinks)) where
+    plus-test : (isThrough (s .link) && isShrink (at t (s .parent) .state)) ≡ r
+    plus-test = rw (h, g, f, e)
+
+    pub plus-stops : r ≡ false → false ≡ growHolds t n s
+    unfolding growHolds
+    plus-stops i = goes _ _ _ top (rw some (stops _ _ (plus-test ∙ i)))
+
+    pub plus-goes : (u : Bool) → r ≡ true → u ≡ touchesHold t n (s .parent) (s .link) → u ≡ growHolds t n s
+    unfolding growHolds
+    plus-goes u i j = goes _ _ _ top (rw some (goes _ _ _ (plus-test ∙ i) j))
+
+  module _ (grows : Bool) (second : ℕ) (placed some r : Bool) (g : grows ≡ isGrow above) (h : second ≡ next t (s .firstChild))
+      (i : placed ≡ (through && grows)) (j : some ≡ (placed && isSome (s .firstChild))) (k : r ≡ (some && isNone second)) where
+    minus-test : (isThrough (s .link) && isGrow (at t (s .parent) .state) && isSome (s .firstChild) && isNone (next t (s .firstChild))) ≡ r
+    minus-test = rw (k, j, i, g, f, e, h)
+
+    pub minus-stops : r ≡ false → false ≡ shrinkHolds t n s
+    unfolding shrinkHolds
+    minus-stops q = stops _ _ (minus-test ∙ q)
+
+    pub minus-goes : (u : Bool) → r ≡ true → u ≡ touchesHold t n (s .parent) (s .link) → u ≡ shrinkHolds t n s
+    unfolding shrinkHolds
+    minus-goes u q v = goes _ _ _ (minus-test ∙ q) v
+
+module _ (t : Table) (x n b : ℕ) (p : b ≡ t .begin) where
+  pub touch-blossom : b ≤ n → false ≡ isDefectInside t x n
+  touch-blossom q = rw (← p, le-ltb n b q)
+
+  pub touch-own : n < b → n ≡ x → true ≡ isDefectInside t x n
+  unfolding insideWithin
+  touch-own q e = rw (← p, lt-ltb n b q, eq-eqb n x e)
+
+  pub touch-climbs : (r : Bool) → n < b → r ≡ inside t x n → r ≡ isDefectInside t x n
+  touch-climbs r q e = e ∙ rw (← p, lt-ltb n b q)
+
+module _ (t : Table) (n : ℕ) (s : Slot) where
+  pub pair-stops : pointsBack t n (s .sibling) ≡ false → false ≡ pairHolds t n s
+  unfolding pairHolds
+  pair-stops h = stops _ _ h
+
+  pub pair-smaller : pointsBack t n (s .sibling) ≡ true → s .sibling < n → true ≡ pairHolds t n s
+  unfolding pairHolds
+  pair-smaller h q = rw (h, lt-ltb (s .sibling) n q)
+
+  pub pair-larger :
+      (back turned : Link) (same r : Bool)
+      → pointsBack t n (s .sibling) ≡ true
+      → n ≤ s .sibling
+      → back ≡ at t (s .sibling) .link
+      → turned ≡ mirror (s .link)
+      → same ≡ sameLink back turned
+      → r ≡ (not (eqb (s .sibling) n) && same)
+      → r ≡ pairHolds t n s
+  unfolding pairHolds
+  pair-larger back turned same r h q e f g i = i ∙ rw (g, e, f, h, le-ltb (s .sibling) n q)
 
 -- a slot is judged by the rule of its state
-pub by-state : (t : Table) (n : ℕ) (s : Slot) (x : State) (r : Bool) → s ≡ at t n → s .state ≡ x → r ≡ ruleOf x t n s → r ≡ slotHolds t n
-unfolding slotHolds
-by-state t n s x r e h q = q ∙ ap (λ (y : State). ruleOf y t n s) (sym h) ∙ ap (λ (u : Slot). ruleOf (u .state) t n u) e
+module _ (t : Table) (n : ℕ) (s : Slot) (e : s ≡ at t n) where
+  pub ring-misplaced : ringPlaced t n (s .ring) ≡ false → false ≡ slotHolds t n
+  unfolding slotHolds
+  ring-misplaced h = stops _ _ (ap (λ (u : Slot). ringPlaced t n (u .ring)) (sym e) ∙ h)
 
-pub pair-step :
-    (t : Table) (n : ℕ) (s p : Slot) (m : Link) (stays same other rooted single u pointing r : Bool)
-    → p ≡ at t (s .sibling)
-    → stays ≡ isStay (p .state)
-    → m ≡ mirror (s .link)
-    → same ≡ sameLink (p .link) m
-    → other ≡ (isSome (s .link .peerTouch) && not (eqb (s .sibling) n))
-    → rooted ≡ (stays && isNone (p .parent))
-    → single ≡ (rooted && isNone (p .firstChild))
-    → u ≡ (other && single)
-    → pointing ≡ (u && eqb (p .sibling) n)
-    → r ≡ (pointing && same)
-    → r ≡ pairHolds t n s
-unfolding pairHolds
-pair-step t n s p m stays same other rooted single u pointing r e₁ e₂ e₃ e₄ e₅ e₆ e₇ e₈ e₉ e =
-    rw (e, e₉, e₈, e₇, e₆, e₅, e₂, e₄, e₃, e₁)
+  pub by-state : (x : State) (r : Bool) → ringPlaced t n (s .ring) ≡ true → s .state ≡ x → r ≡ ruleOf x t n s → r ≡ slotHolds t n
+  unfolding slotHolds
+  by-state x r p h q =
+      goes _ _ _ (ap (λ (u : Slot). ringPlaced t n (u .ring)) (sym e) ∙ p)
+      (q ∙ ap (λ (y : State). ruleOf y t n s) (sym h) ∙ ap (λ (u : Slot). ruleOf (u .state) t n u) e)
 
-pub shrink-step :
-    (t : Table) (n : ℕ) (s : Slot) (x : State) (second : ℕ) (common full grows u some own touches v r : Bool)
-    → common ≡ commonHolds t n s
-    → full ≡ isFull (s .link)
-    → x ≡ at t (s .parent) .state
-    → grows ≡ isGrow x
-    → second ≡ next t (s .firstChild)
-    → u ≡ (full && grows)
-    → some ≡ (u && isSome (s .firstChild))
-    → own ≡ (some && isNone second)
-    → touches ≡ touchesHold t n (s .parent) (s .link)
-    → v ≡ (common && own)
-    → r ≡ (v && touches)
-    → r ≡ shrinkHolds t n s
-unfolding shrinkHolds
-shrink-step t n s x second common full grows u some own touches v r e₁ e₂ e₃ e₄ e₅ e₆ e₇ e₈ e₉ d e =
-    rw (e, d, e₈, e₇, e₆, e₄, e₁, e₂, e₃, e₅, e₉)
+  pub vacant-by-state : (x : State) (r : Bool) → s .state ≡ x → r ≡ vacantOf x s → r ≡ isVacant t n
+  unfolding isVacant
+  vacant-by-state x r h q = q ∙ ap (λ (y : State). vacantOf y s) (sym h) ∙ ap (λ (u : Slot). vacantOf (u .state) u) e

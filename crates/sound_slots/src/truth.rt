@@ -1,7 +1,6 @@
 // Tests put together. Each takes its parts as values, so that a rule reads as one expression and has one fact to prove.
 ghost use mathlib.Core.Path.{_≡_};
 ghost use mathlib.Core.Bool.{_&&_};
-ghost use Rattle.rules.specs.Sound.{_⇒_};
 
 pub fn both(a: bool, b: bool) -> bool
     ensures { λ r. ⌜ r ≡ (a && b) ⌝ }
@@ -10,14 +9,4 @@ pub fn both(a: bool, b: bool) -> bool
         return b;
     }
     false
-}
-
-// Where the first holds, the second must.
-pub fn implies(a: bool, b: bool) -> bool
-    ensures { λ r. ⌜ r ≡ (a ⇒ b) ⌝ }
-{
-    if a {
-        return b;
-    }
-    true
 }

@@ -5,9 +5,9 @@ use slot::Slot;
 use slot::State;
 ghost use mathlib.Core.Path.{_≡_};
 ghost use Rattle.slot.specs.Slot.{linkOf, slotOf, noLink};
-ghost use Rattle.rules.specs.Slots.{isFull, sameLink, isStay, isGrow, isShrink};
+ghost use Rattle.rules.specs.Slots.{sameLink, isStay, isGrow, isShrink};
 ghost use Rattle.rules.specs.Sound.{isBare};
-ghost use Rattle.sound_slots.specs.OneSlot.{isJoined};
+ghost use Rattle.sound_slots.specs.OneSlot.{isThrough};
 
 pub fn is_stay(s: State) -> bool
     ensures { λ r. ⌜ r ≡ isStay s ⌝ }
@@ -59,26 +59,14 @@ pub fn is_no_link(l: Link) -> bool
     both(there, l.peer_through.0 == slot::number::NO_VERTEX)
 }
 
-pub fn is_full(l: Link) -> bool
-    ensures { λ r. ⌜ r ≡ isFull (linkOf l) ⌝ }
+// Both throughs.
+pub fn is_through(l: Link) -> bool
+    ensures { λ r. ⌜ r ≡ isThrough (linkOf l) ⌝ }
 {
-    let here = both(
-        l.touch.0 != slot::number::NO_NODE,
+    both(
         l.through.0 != slot::number::NO_VERTEX,
-    );
-    let there = both(here, l.peer_touch.0 != slot::number::NO_NODE);
-    both(there, l.peer_through.0 != slot::number::NO_VERTEX)
-}
-
-// A touch and both throughs.
-pub fn is_joined(l: Link) -> bool
-    ensures { λ r. ⌜ r ≡ isJoined (linkOf l) ⌝ }
-{
-    let here = both(
-        l.touch.0 != slot::number::NO_NODE,
-        l.through.0 != slot::number::NO_VERTEX,
-    );
-    both(here, l.peer_through.0 != slot::number::NO_VERTEX)
+        l.peer_through.0 != slot::number::NO_VERTEX,
+    )
 }
 
 pub fn same_link(l: Link, m: Link) -> bool

@@ -4,4 +4,4 @@ pub mod Truth
 pub mod Walks
 pub mod Sweeps
 pub mod Paths
-pub mod Ways
+pub mod WaysEnd

@@ -2,7 +2,7 @@
 use mathlib.Core.Path.{_≡_, refl, sym, ap, _∙_}
 use mathlib.Core.List.{List}
 use mathlib.Core.Bool.{Bool, true, false, _&&_, _||_, not, and-true}
-use Prim.Native.Nat.{ℕ, _+_, _%_, _≤_, _<_}
+use Prim.Native.Nat.{ℕ, _%_, _≤_, _<_}
 use native.Mathlib.Nat.{zero-add}
 use native.Mathlib.Omega.{arith}
 use lib.Dec.{eqb, leb}
@@ -12,16 +12,17 @@ use Rattle.lists.specs.Choice.{pick}
 use Rattle.slot.specs.declared.state.State.{State}
 use Rattle.slot.specs.declared.state.State.the-variants as S
 use Rattle.slot.specs.Number.{none}
-use Rattle.slot.specs.State.{isPresent, isOuter, isInner}
+use Rattle.slot.specs.State.{isPresent, isOuter}
 use Rattle.table.specs.Table.{Table, at}
-use Rattle.nodes.specs.Nodes.{isBlossom, present, outer, inner}
-use Rattle.rules.specs.Slots.{isNone, isSome, up, next}
+use Rattle.nodes.specs.Nodes.{outer, inner}
+use Rattle.rules.specs.Slots.{isSome, up, next}
 use Rattle.rules.specs.Walk.{walk, ends, isIn, allIn, allBelow}
-use Rattle.rules.specs.Sound.{_⇒_, children, isOuterChild, s5, nextInRing, ringOf, ringCloses, isInnerChild, ringHolds}
-use Rattle.sound_walks.specs.Marks.{marked, Walked, marking, Judged, judgedOf, listEnded, listStep, hasRing, isRingNode, isOddRing, ringEnded, ringStep, sweep, listed, ringed, claimOf, claimed}
-use Rattle.sound_walks.proofs.Truth.{lie, by-cases, and-left, and-right, and-both, when, if-then, all-to, all-from, in-all, all-and}
+use Rattle.rules.specs.Sound.{_⇒_, children, isOuterChild, s5, nextInRing, ringOf, isInnerChild, ringHolds}
+use Rattle.sound_walks.specs.Marks.{marked, Walked, marking, Judged, judgedOf, listEnded, listStep, hasRing, isRingNode, isOddRing, ringEnded, ringStep, sweep}
+use Rattle.sound_walks.proofs.Truth.{by-cases, and-left, and-right, and-both, when, if-then, all-to, all-from, in-all, all-and}
 use Rattle.sound_walks.proofs.Walks.{good, marking-length, walk-length, marking-count, marking-seen}
-use Rattle.sound_walks.proofs.Sweeps.{pass-fine, pass-whole, fine-pass, fine-claim}
+use Rattle.sound_walks.proofs.Sweeps.{pass-fine, pass-whole, pass-owner, fine-pass, fine-claim}
+use Rattle.sound_walks.proofs.Steps.{marking-end}
 
 abbrev pub unseen : List ℕ
 unseen = replicate 256 0
@@ -47,19 +48,19 @@ odd-unbroken : (g : Bool) (n : ℕ) → n ≤ 256 → isOddRing (pick g n none) 
 odd-unbroken true n h = rw (small n h, and-true)
 odd-unbroken false n h = refl
 
-module _ (t : Table) where
-  -- ---- lists
+-- ---- lists; only outer nodes have one
 
+module _ (t : Table) (bare : (i : ℕ) → outer t i ≡ false → at t i .firstChild ≡ none) where
   abbrev listFine : ℕ → Bool
   listFine i = good (next t) (isOuterChild t i) 256 (at t i .firstChild)
 
   pub list-skips : (i : ℕ) (l : List ℕ) → outer t i ≡ false → listStep t i l ≡ judgedOf true l
   unfolding listStep
-  list-skips i l o = rw o
+  list-skips i l o = ap (λ (w : Walked). listEnded w) (sym (marking-end (next t) (isOuterChild t i) (at t i .firstChild) 0 l 256 (bare i o)))
 
   list-walks : (i : ℕ) (l : List ℕ) → outer t i ≡ true → listStep t i l ≡ listEnded (marking 256 (next t) (isOuterChild t i) (at t i .firstChild) 0 l)
   unfolding listStep
-  list-walks i l o = rw o
+  list-walks i l o = refl
 
   list-judges : (i : ℕ) (l : List ℕ) → outer t i ≡ true → listStep t i l .ok ≡ listFine i
   list-judges i l o =
@@ -120,8 +121,9 @@ module _ (t : Table) where
         (all-to (λ k. isOuterChild t (up t j) k ⇒ isIn k (children t (up t j))) 256 j (and-right (listFine (up t j)) _ (list-holds (up t j) u o)) q)
         (and-both (outer t j) (eqb (up t j) (up t j)) d (eq-eqb (up t j) (up t j) refl)))
 
-  -- ---- rings
+-- ---- rings
 
+module _ (t : Table) where
   abbrev around : ℕ → ℕ → ℕ
   around b = nextInRing t (at t b .ring)
 
@@ -208,6 +210,10 @@ module _ (t : Table) where
       (and-left (inner t j) (eqb (up t j) b) m)
       (eqb-true (up t j) b (and-right (inner t j) (eqb (up t j) b) m))))))
 
+  -- the parent of a marked node is a present blossom
+  pub ring-owner : sweep (ringStep t) 256 0 unseen .ok ≡ true → (j : ℕ) → j < 256 → marked (sweep (ringStep t) 256 0 unseen .seen) j ≡ true → hasRing t (up t j) ≡ true
+  ring-owner ok j q m = pass-owner t (hasRing t) ringFine (ringOf t) (ringStep t) ring-skips ring-judges ring-marks ring-keeps ring-own ok j q m
+
   module _ (holds : (b : ℕ) → b < 256 → (hasRing t b ⇒ ringHolds t b) ≡ true) where
     ring-whole : (b : ℕ) → b < 256 → hasRing t b ≡ true → (ringFine b && ringWhole b) ≡ true
     ring-whole b q o = sym (ring-holds b) ∙ when (hasRing t b) (ringHolds t b) (holds b q) o
@@ -223,45 +229,3 @@ module _ (t : Table) where
         (when (isInnerChild t (up t j) j) (isIn j (ringOf t (up t j)))
         (all-to (λ k. isInnerChild t (up t j) k ⇒ isIn k (ringOf t (up t j))) 256 j (and-right (ringFine (up t j)) (ringWhole (up t j)) (ring-whole (up t j) u o)) q)
         (and-both (inner t j) (eqb (up t j) (up t j)) d (eq-eqb (up t j) (up t j) refl)))
-
-  -- ---- claims
-
-  module _ (l m : List ℕ) (j : ℕ) where
-    pub claimed-listed : claimed t l m j ≡ true → outer t j ≡ true → outer t (up t j) ≡ true → marked l j ≡ true
-    unfolding claimed listed
-    claimed-listed h o p = go (at t j .state) h o
-      where
-        go : (x : State) → claimOf x t l m j ≡ true → isOuter x ≡ true → marked l j ≡ true
-        go S.Empty h o = lie o
-        go S.Inner h o = lie o
-        go S.Stay h o = when (outer t (up t j)) (marked l j) h p
-        go S.Grow h o = when (outer t (up t j)) (marked l j) h p
-        go S.Shrink h o = when (outer t (up t j)) (marked l j) h p
-        go S.Damaged h o = lie o
-
-    pub claimed-ringed : claimed t l m j ≡ true → inner t j ≡ true → hasRing t (up t j) ≡ true → marked m j ≡ true
-    unfolding claimed ringed
-    claimed-ringed h o p = go (at t j .state) h o
-      where
-        go : (x : State) → claimOf x t l m j ≡ true → isInner x ≡ true → marked m j ≡ true
-        go S.Empty h o = lie o
-        go S.Inner h o = when (hasRing t (up t j)) (marked m j) h p
-        go S.Stay h o = lie o
-        go S.Grow h o = lie o
-        go S.Shrink h o = lie o
-        go S.Damaged h o = lie o
-
-    pub claimed-from :
-        (outer t j ≡ true → outer t (up t j) ≡ true → marked l j ≡ true)
-        → (inner t j ≡ true → hasRing t (up t j) ≡ true → marked m j ≡ true)
-        → claimed t l m j ≡ true
-    unfolding claimed listed ringed
-    claimed-from f g = go (at t j .state) f g
-      where
-        go : (x : State) → (isOuter x ≡ true → outer t (up t j) ≡ true → marked l j ≡ true) → (isInner x ≡ true → hasRing t (up t j) ≡ true → marked m j ≡ true) → claimOf x t l m j ≡ true
-        go S.Empty f g = refl
-        go S.Inner f g = if-then (hasRing t (up t j)) (marked m j) (g refl)
-        go S.Stay f g = if-then (outer t (up t j)) (marked l j) (f refl)
-        go S.Grow f g = if-then (outer t (up t j)) (marked l j) (f refl)
-        go S.Shrink f g = if-then (outer t (up t j)) (marked l j) (f refl)
-        go S.Damaged f g = refl

@@ -1,24 +1,17 @@
--- Walks, passes and claims, step by step as the code takes them: what was found so far, in the code's order, and what is left.
-use mathlib.Core.Path.{_≡_, refl, sym, ap, _∙_}
+-- Walks and passes, step by step as the code takes them: what was found so far, in the code's order, and what is left.
+use mathlib.Core.Path.{_≡_, refl, sym, _∙_}
 use mathlib.Core.List.{List}
-use mathlib.Core.Bool.{Bool, true, false, and-false}
+use mathlib.Core.Bool.{Bool, true, false}
 use Prim.Native.Nat.{ℕ, zero, suc, _+_, _-_, _≤_, _<_}
 use native.Mathlib.Numerals.{add-one}
 use native.Mathlib.Omega.{arith}
-use lib.ListN.{length, getD, set, List·getD-eq-default}
+use lib.ListN.{length, set, List·getD-eq-default}
 use borrow.Author.Tests.{eq-eqb, ne-eqb}
-use Rattle.lists.specs.Choice.{pick}
-use Rattle.slot.specs.declared.state.State.{State}
-use Rattle.slot.specs.declared.state.State.the-variants as S
 use Rattle.slot.specs.Number.{none}
-use Rattle.slot.specs.Slot.{emptySlot}
 use Rattle.table.specs.Table.{Table, at}
-use Rattle.table.specs.Words.{tableOf}
-use Rattle.table.proofs.WordsOfSlots.{at-past}
-use Rattle.nodes.specs.Nodes.{outer}
-use Rattle.rules.specs.Slots.{up, next}
+use Rattle.rules.specs.Slots.{next}
 use Rattle.rules.specs.Sound.{isOuterChild, nextInRing}
-use Rattle.sound_walks.specs.Marks.{marked, Walked, walkedOf, marking, Judged, judgedOf, listEnded, listStep, hasRing, isRingNode, isOddRing, ringStep, sweep, listed, ringed, claimOf, claimed}
+use Rattle.sound_walks.specs.Marks.{marked, Walked, walkedOf, marking, Judged, judgedOf, listEnded, listStep, hasRing, isRingNode, isOddRing, ringStep, sweep}
 
 pub marked-past : (l : List ℕ) (n : ℕ) → length l ≤ n → false ≡ marked l n
 unfolding marked
@@ -60,30 +53,15 @@ module _ (along : ℕ → ℕ) (mine : ℕ → Bool) (n c : ℕ) (l : List ℕ) 
 
 -- ---- a slot's own walk
 
-pub list-bare : (t : Table) (i : ℕ) (l : List ℕ) (a : ℕ) → a ≡ at t i .firstChild → a ≡ none → judgedOf true l ≡ listStep t i l
+pub list-walked :
+    (t : Table) (i : ℕ) (l : List ℕ) (a : ℕ) (w : Walked)
+    → a ≡ at t i .firstChild
+    → w ≡ marking 256 (next t) (isOuterChild t i) a 0 l
+    → listEnded w ≡ listStep t i l
 unfolding listStep
-list-bare t i l a p h =
-    either (outer t i)
-  where
-    either : (b : Bool) → judgedOf true l ≡ pick b (listEnded (marking 256 (next t) (isOuterChild t i) (at t i .firstChild) 0 l)) (judgedOf true l)
-    either true = ap (λ (w : Walked). listEnded w) (marking-end (next t) (isOuterChild t i) a 0 l 256 h) ∙ rw p
-    either false = refl
+list-walked t i l a w p q = rw (← p, ← q)
 
 module _ (t : Table) (i : ℕ) (l : List ℕ) (b : Bool) where
-  pub list-none : b ≡ outer t i → b ≡ false → judgedOf true l ≡ listStep t i l
-  unfolding listStep
-  list-none e h = let q : outer t i ≡ false = sym e ∙ h in rw q
-
-  pub list-some :
-      (a : ℕ) (w : Walked)
-      → b ≡ outer t i
-      → b ≡ true
-      → a ≡ at t i .firstChild
-      → w ≡ marking 256 (next t) (isOuterChild t i) a 0 l
-      → listEnded w ≡ listStep t i l
-  unfolding listStep
-  list-some a w e h p q = let u : outer t i ≡ true = sym e ∙ h in rw (u, ← p, ← q)
-
   pub ring-none : b ≡ hasRing t i → b ≡ false → judgedOf true l ≡ ringStep t i l
   unfolding ringStep
   ring-none e h = let q : hasRing t i ≡ false = sym e ∙ h in rw q
@@ -114,50 +92,6 @@ module _ (step : ℕ → List ℕ → Judged) (to i : ℕ) (l : List ℕ) where
     pub sweep-more : b ≡ true → sweep step (to - (i + 1)) (i + 1) m ≡ sweep step (to - i) i l
     unfolding sweep
     sweep-more q = let f : to - i ≡ suc (to - suc i) = omega arith in rw (f, ← e, q, add-one)
-
--- ---- claims
-
-module _ (t : Table) (l : List ℕ) (j p : ℕ) (b : Bool) (e : p ≡ up t j) where
-  pub listed-loose : b ≡ outer t p → b ≡ false → true ≡ listed t l j
-  unfolding listed
-  listed-loose q h = let u : outer t p ≡ false = sym q ∙ h in rw (← e, u)
-
-  pub listed-here : (r : Bool) → b ≡ outer t p → b ≡ true → r ≡ marked l j → r ≡ listed t l j
-  unfolding listed
-  listed-here r q h m = let u : outer t p ≡ true = sym q ∙ h in rw (← e, u) m
-
-  pub ringed-loose : b ≡ hasRing t p → b ≡ false → true ≡ ringed t l j
-  unfolding ringed
-  ringed-loose q h = let u : hasRing t p ≡ false = sym q ∙ h in rw (← e, u)
-
-  pub ringed-here : (r : Bool) → b ≡ hasRing t p → b ≡ true → r ≡ marked l j → r ≡ ringed t l j
-  unfolding ringed
-  ringed-here r q h m = let u : hasRing t p ≡ true = sym q ∙ h in rw (← e, u) m
-
--- past the table nothing owns
-pub claimed-loose : (ws : List ℕ) (l m : List ℕ) (j p : ℕ) → p ≡ up (tableOf ws) j → p ≡ none → true ≡ claimed (tableOf ws) l m j
-unfolding claimed listed ringed
-claimed-loose ws l m j p e h = go (at (tableOf ws) j .state)
-  where
-    nothing : at (tableOf ws) (up (tableOf ws) j) ≡ emptySlot
-    nothing = ap (at (tableOf ws)) (sym e ∙ h) ∙ sym (at-past ws none (omega arith))
-
-    go : (x : State) → true ≡ claimOf x (tableOf ws) l m j
-    go S.Empty = refl
-    go S.Inner = rw (nothing, and-false)
-    go S.Stay = rw nothing
-    go S.Grow = rw nothing
-    go S.Shrink = rw nothing
-    go S.Damaged = refl
-
-pub claimed-by :
-    (t : Table) (l m : List ℕ) (j : ℕ) (s x : State) (r : Bool)
-    → s ≡ at t j .state
-    → s ≡ x
-    → r ≡ claimOf x t l m j
-    → r ≡ claimed t l m j
-unfolding claimed
-claimed-by t l m j s x r e h q = q ∙ ap (λ (y : State). claimOf y t l m j) (sym h ∙ e)
 
 module _ (t : Table) (first n after : ℕ) (e : after ≡ next t n) where
   pub ring-back : after ≡ first → none ≡ nextInRing t first n

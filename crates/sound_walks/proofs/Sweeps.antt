@@ -1,7 +1,7 @@
 -- A pass over all slots: what it says of each, what it leaves marked, and the slots that it may leave out.
 use mathlib.Core.Path.{_≡_, refl, sym, ap, _∙_}
 use mathlib.Core.List.{List}
-use mathlib.Core.Bool.{Bool, true, false, _&&_, _||_}
+use mathlib.Core.Bool.{Bool, true, false, _||_}
 use Prim.Native.Nat.{ℕ, zero, suc, _+_, _-_, _≤_, _<_}
 use native.Mathlib.Decide.{ℕ-discrete}
 use native.Mathlib.Omega.{arith}
@@ -115,13 +115,13 @@ module _ (t : Table) (owns fine : ℕ → Bool) (path : ℕ → List ℕ) (step 
         go ih (no e) = ih (omega arith)
 
     -- one step
-    step-marks : {R : Type 0} (i : ℕ) (l : List ℕ) (j : ℕ) → step i l .ok ≡ true → j < length l → marked (step i l .seen) j ≡ true → (marked l j ≡ true → R) → (isIn j (path (up t j)) ≡ true → R) → R
+    step-marks : {R : Type 0} (i : ℕ) (l : List ℕ) (j : ℕ) → step i l .ok ≡ true → j < length l → marked (step i l .seen) j ≡ true → (marked l j ≡ true → R) → (owns (up t j) ≡ true → isIn j (path (up t j)) ≡ true → R) → R
     step-marks i l j ok q m f g =
         by-cases (owns i)
         (λ o.
         let u : fine i ≡ true = sym (judges i l o) ∙ ok in
         or-elim (marked l j) (isIn j (path i)) (sym (marks i l j o u q) ∙ m) f
-        (λ e. g (ap (λ (p : ℕ). isIn j (path p)) (own i j u e) ∙ e)))
+        (λ e. g (ap owns (own i j u e) ∙ o) (ap (λ (p : ℕ). isIn j (path p)) (own i j u e) ∙ e)))
         (λ o. f (ap (λ (w : Judged). marked (w .seen) j) (sym (skips i l o)) ∙ m))
 
     step-keeps : (i : ℕ) (l : List ℕ) (j : ℕ) → step i l .ok ≡ true → j < length l → marked l j ≡ true → marked (step i l .seen) j ≡ true
@@ -133,8 +133,8 @@ module _ (t : Table) (owns fine : ℕ → Bool) (path : ℕ → List ℕ) (step 
     step-covers : (i : ℕ) (l : List ℕ) (j : ℕ) → step i l .ok ≡ true → owns i ≡ true → j < length l → isIn j (path i) ≡ true → marked (step i l .seen) j ≡ true
     step-covers i l j ok o q m = marks i l j o (sym (judges i l o) ∙ ok) q ∙ or-right (marked l j) (isIn j (path i)) m
 
-    -- what is marked was so before, or is on its parent's path
-    sweep-marks : {R : Type 0} (k i : ℕ) (l : List ℕ) (j : ℕ) → sweep step k i l .ok ≡ true → j < length l → marked (sweep step k i l .seen) j ≡ true → (marked l j ≡ true → R) → (isIn j (path (up t j)) ≡ true → R) → R
+    -- what is marked was so before, or is on its parent's path, and the parent owns it
+    sweep-marks : {R : Type 0} (k i : ℕ) (l : List ℕ) (j : ℕ) → sweep step k i l .ok ≡ true → j < length l → marked (sweep step k i l .seen) j ≡ true → (marked l j ≡ true → R) → (owns (up t j) ≡ true → isIn j (path (up t j)) ≡ true → R) → R
     sweep-marks zero i l j ok q m f g = f (ap (λ (w : Judged). marked (w .seen) j) (sym (sweep-zero step i l)) ∙ m)
     sweep-marks (suc k) i l j ok q m f g =
         sweep-marks k (suc i) (step i l .seen) j (sweep-tail step k i l ok) (rw keeps q)
@@ -183,7 +183,11 @@ module _ (t : Table) (owns fine : ℕ → Bool) (path : ℕ → List ℕ) (step 
     pass-whole kind ok claim i j o q d e =
         sweep-marks 256 0 none-seen j ok (rw none-length q) (claim j q d (ap owns e ∙ o))
         (λ m. lie (sym (marked-none j q) ∙ m))
-        (λ m. ap (λ (p : ℕ). isIn j (path p)) (sym e) ∙ m)
+        (λ _ m. ap (λ (p : ℕ). isIn j (path p)) (sym e) ∙ m)
+
+    -- a parent whose child was marked owns it
+    pub pass-owner : sweep step 256 0 none-seen .ok ≡ true → (j : ℕ) → j < 256 → marked (sweep step 256 0 none-seen .seen) j ≡ true → owns (up t j) ≡ true
+    pass-owner ok j q m = sweep-marks 256 0 none-seen j ok (rw none-length q) m (λ n. lie (sym (marked-none j q) ∙ n)) (λ o _. o)
 
     pub fine-pass : ((i : ℕ) → i < 256 → owns i ≡ true → fine i ≡ true) → sweep step 256 0 none-seen .ok ≡ true
     fine-pass f = sweep-fine 256 0 none-seen (λ h p q. f h (omega arith))

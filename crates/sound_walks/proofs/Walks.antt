@@ -1,7 +1,7 @@
 -- A marking walk passes the nodes of the rules' walk: how many, and which marks it leaves.
-use mathlib.Core.Path.{_≡_, refl, sym, ap, _∙_}
-use mathlib.Core.List.{List, [], _∷_}
-use mathlib.Core.Bool.{Bool, true, false, _&&_, _||_, not, or-false, or-true, or-assoc, and-false}
+use mathlib.Core.Path.{_≡_, ap, _∙_}
+use mathlib.Core.List.{List}
+use mathlib.Core.Bool.{Bool, true, false, _&&_, _||_, or-false, or-true, or-assoc, and-false}
 use Prim.Native.Nat.{ℕ, zero, suc, _+_, _≤_, _<_}
 use native.Mathlib.Decide.{ℕ-discrete}
 use native.Mathlib.Omega.{arith}
@@ -13,7 +13,7 @@ use Rattle.lists.specs.Choice.{pick}
 use Rattle.slot.specs.Number.{none}
 use Rattle.rules.specs.Slots.{isNone}
 use Rattle.rules.specs.Walk.{walk, ends, isIn, allIn}
-use Rattle.sound_walks.specs.Marks.{marked, Walked, walkedOf, marking}
+use Rattle.sound_walks.specs.Marks.{marked, marking}
 use Rattle.sound_walks.proofs.Truth.{lie, by-cases, and-left, and-right, and-both}
 
 pub marked-none : (j : ℕ) → j < 256 → marked (replicate 256 0) j ≡ false

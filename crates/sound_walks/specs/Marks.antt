@@ -1,17 +1,15 @@
 -- What the code does for S5 and S6 in one pass, with a mark for each slot. That it gives the rules is proved in proofs/.
 use Prim.Native.Nat.{ℕ, zero, suc, _+_, _%_}
-use mathlib.Core.Bool.{Bool, true, false, not, _&&_}
+use mathlib.Core.Bool.{Bool, true, not, _&&_}
 use mathlib.Core.List.{List}
 use lib.Dec.{eqb, leb}
 use lib.ListN.{getD, set}
 use Rattle.lists.specs.Choice.{pick}
-use Rattle.slot.specs.declared.state.State.{State}
-use Rattle.slot.specs.declared.state.State.the-variants as S
 use Rattle.slot.specs.Number.{none}
 use Rattle.table.specs.Table.{Table, at}
-use Rattle.nodes.specs.Nodes.{isBlossom, present, outer, inner}
-use Rattle.rules.specs.Slots.{isNone, isSome, up, next}
-use Rattle.rules.specs.Sound.{_⇒_, isOuterChild, isInnerChild, nextInRing}
+use Rattle.nodes.specs.Nodes.{isBlossom, present}
+use Rattle.rules.specs.Slots.{isNone, isSome, next}
+use Rattle.rules.specs.Sound.{isOuterChild, isInnerChild, nextInRing}
 
 unfoldable pub marked : List ℕ → ℕ → Bool
 marked l n = eqb (getD l n 0) 1
@@ -47,7 +45,7 @@ abbrev pub listEnded : Walked → Judged
 listEnded w = judgedOf (not (eqb (w .count) none)) (w .seen)
 
 unfoldable pub listStep : Table → ℕ → List ℕ → Judged
-listStep t i l = pick (outer t i) (listEnded (marking 256 (next t) (isOuterChild t i) (at t i .firstChild) 0 l)) (judgedOf true l)
+listStep t i l = listEnded (marking 256 (next t) (isOuterChild t i) (at t i .firstChild) 0 l)
 
 abbrev pub hasRing : Table → ℕ → Bool
 hasRing t b = isBlossom t b && present t b
@@ -74,22 +72,3 @@ ringStep t b l =
 unfoldable pub sweep : (ℕ → List ℕ → Judged) → ℕ → ℕ → List ℕ → Judged
 sweep step zero i l = judgedOf true l
 sweep step (suc k) i l = let rest = sweep step k (suc i) (step i l .seen) in pick (step i l .ok) rest (step i l)
-
--- marked, where the parent has a list, or a ring
-unfoldable pub listed : Table → List ℕ → ℕ → Bool
-listed t l j = outer t (up t j) ⇒ marked l j
-
-unfoldable pub ringed : Table → List ℕ → ℕ → Bool
-ringed t l j = hasRing t (up t j) ⇒ marked l j
-
-abbrev pub claimOf : State → Table → List ℕ → List ℕ → ℕ → Bool
-claimOf S.Empty t l m j = true
-claimOf S.Inner t l m j = ringed t m j
-claimOf S.Stay t l m j = listed t l j
-claimOf S.Grow t l m j = listed t l j
-claimOf S.Shrink t l m j = listed t l j
-claimOf S.Damaged t l m j = true
-
--- l has the marks of lists, m those of rings
-unfoldable pub claimed : Table → List ℕ → List ℕ → ℕ → Bool
-claimed t l m j = claimOf (at t j .state) t l m j

@@ -1,4 +1,4 @@
-// Child lists (S5): each outer node's list is walked and its nodes are marked.
+// Child lists (S5): each list is walked and its nodes are marked. Only outer nodes have one.
 use crate::marks;
 use slot::Node;
 use sound_slots::truth::both;
@@ -46,12 +46,6 @@ fn list_step(t: &Table, seen: &mut [u8], i: Node) -> bool
     ensures { λ r. ⌜ judgedOf r (now (seen .exit)) ≡ listStep (tableOf (now (t .entry))) (i .0) (now (seen .entry)) ⌝ }
 {
     let child = nodes::field::first_child(t, i);
-    if child.0 == slot::number::NO_NODE {
-        return true;
-    }
-    if !nodes::field::is_outer(t, i) {
-        return true;
-    }
     let count = walk_list(t, seen, i, child);
     count != slot::number::NO_NODE
 }

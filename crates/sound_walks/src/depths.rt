@@ -3,9 +3,8 @@ use crate::marks;
 use slot::Node;
 use table::Table;
 ghost use mathlib.Core.Path.{_≡_};
-ghost use Prim.Native.Nat.{_-_};
 ghost use Rattle.table.specs.Words.{tableOf};
-ghost use Rattle.sound_walks.specs.Marks.{judgedOf, sweep};
+ghost use Rattle.sound_walks.specs.Marks.{judgedOf};
 ghost use Rattle.sound_walks.specs.Depths.{measured, recorded, depthStep};
 
 // The depth of n, at most 257 steps to a node whose depth is known. 65,535 if there are more.
@@ -49,15 +48,25 @@ fn note_way(t: &Table, deep: &mut [u16], n: Node, depth: u16)
     }
 }
 
-// A node without a parent is at the top, and its depth need not be remembered.
-fn depth_step(t: &Table, deep: &mut [u16], n: Node) -> bool
+// Whether the way up from n comes to an end. A node without a parent is at the top, and its depth need not be remembered; most
+// often the parent's depth is known.
+pub fn depth_step(t: &Table, deep: &mut [u16], n: Node) -> bool
     ensures { λ r. ⌜ judgedOf r (now (deep .exit)) ≡ depthStep (tableOf (now (t .entry))) (n .0) (now (deep .entry)) ⌝ }
 {
     let above = nodes::field::parent(t, n);
     if above.0 == slot::number::NO_NODE {
         return true;
     }
-    if !nodes::field::is_outer(t, n) {
+    let own = marks::depth_of(deep, n);
+    if own != 0 {
+        return own <= 257;
+    }
+    let known = marks::depth_of(deep, above);
+    if known != 0 {
+        if 256 < known {
+            return false;
+        }
+        marks::note_depth(deep, n, known + 1);
         return true;
     }
     let depth = measure(t, deep, n);
@@ -65,19 +74,5 @@ fn depth_step(t: &Table, deep: &mut [u16], n: Node) -> bool
         return false;
     }
     note_way(t, deep, n, depth as u16);
-    true
-}
-
-// The ways up from the slots from one number to before another.
-pub fn depths_hold(t: &Table, deep: &mut [u16], from: u16, to: u16) -> bool
-    ensures { λ r. ⌜ judgedOf r (now (deep .exit)) ≡ sweep (depthStep (tableOf (now (t .entry)))) (to - from) from (now (deep .entry)) ⌝ }
-{
-    let mut i = from;
-    while i < to {
-        if !depth_step(t, deep, Node(i)) {
-            return false;
-        }
-        i += 1;
-    }
     true
 }

@@ -1,4 +1,6 @@
-use Rattle.sound_slots.proofs.Steps.{pair-step}
+use Rattle.sound_slots.proofs.Steps.{pair-stops, pair-smaller, pair-larger}
+use mathlib.Core.Path.{sym, _∙_}
+use borrow.Author.Tests.{not-true, not-false}
 use borrow.Author.Needs.{needs}
 use Rattle.sound_slots.proofs.pair_holds.Statement.{statement}
 use Rattle.sound_slots.proofs.pair_holds.Tie as tie
@@ -8,13 +10,10 @@ pair-holds-spec =
     tie.close
     (tie.spec
     (λ c κs. search needs)
+    (λ c. pair-stops _ _ _ (sym (c .before .points-back .ensures) ∙ not-true _ (c .if1 .taken)))
+    (λ c. pair-smaller _ _ _ (sym (c .before .before .before .before .points-back .ensures) ∙ not-false _ (c .before .before .before .if1 .left)) (c .if2 .taken))
     (λ c κs. search needs)
     (λ c κs. search needs)
     (λ c κs. search needs)
     (λ c κs. search needs)
-    (λ c κs. search needs)
-    (λ c κs. search needs)
-    (λ c κs. search needs)
-    (λ c κs. search needs)
-    (λ c κs. search needs)
-    (λ c. pair-step _ _ _ _ _ _ _ _ _ _ _ _ _ (c .before .before .before .before .before .before .before .before .before .before .before .before .before .before .before .before .before .get .ensures) (c .before .before .before .before .before .before .before .before .before .before .before .before .before .before .before .is-stay .ensures) (c .before .before .before .before .before .before .before .before .before .before .before .before .before .before .mirrored .ensures) (c .before .before .before .before .before .before .before .before .before .before .before .before .before .same-link .ensures) (c .before .before .before .before .before .before .before .before .before .both .ensures) (c .before .before .before .before .before .before .before .both2 .ensures) (c .before .before .before .before .before .both3 .ensures) (c .before .before .before .before .both4 .ensures) (c .before .both5 .ensures) (c .both6 .ensures)))
+    (λ c. pair-larger _ _ _ _ _ _ _ (sym (c .before .before .before .before .before .before .before .before .before .before .points-back .ensures) ∙ not-false _ (c .before .before .before .before .before .before .before .before .before .if1 .left)) (c .before .before .before .before .before .before .if2 .left) (c .before .before .before .before .before .link2 .ensures) (c .before .before .before .before .mirrored .ensures) (c .before .before .before .same-link .ensures) (c .both .ensures)))

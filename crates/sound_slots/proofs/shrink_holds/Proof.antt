@@ -1,4 +1,5 @@
-use Rattle.sound_slots.proofs.Steps.{shrink-step}
+use Rattle.sound_slots.proofs.Steps.{minus-stops, minus-goes}
+use borrow.Author.Tests.{not-true, not-false}
 use borrow.Author.Needs.{needs}
 use Rattle.sound_slots.proofs.shrink_holds.Statement.{statement}
 use Rattle.sound_slots.proofs.shrink_holds.Tie as tie
@@ -14,8 +15,6 @@ shrink-holds-spec =
     (λ c κs. search needs)
     (λ c κs. search needs)
     (λ c κs. search needs)
+    (λ c. minus-stops _ _ _ _ (c .before .before .before .before .before .before .before .before .before .state .ensures) _ (c .before .before .before .before .before .before .is-through .ensures) _ _ _ _ _ (c .before .before .before .before .before .before .before .before .is-grow .ensures) (c .before .before .before .before .before .before .before .sibling .ensures) (c .before .before .before .before .before .both .ensures) (c .before .before .before .both2 .ensures) (c .before .both3 .ensures) (not-true _ (c .if1 .taken)))
     (λ c κs. search needs)
-    (λ c κs. search needs)
-    (λ c κs. search needs)
-    (λ c κs. search needs)
-    (λ c. shrink-step _ _ _ _ _ _ _ _ _ _ _ _ _ _ (c .before .before .before .before .before .before .before .before .before .before .before .before .common-holds .ensures) (c .before .before .before .before .before .before .before .before .before .before .before .is-full .ensures) (c .before .before .before .before .before .before .before .before .before .before .state .ensures) (c .before .before .before .before .before .before .before .before .before .is-grow .ensures) (c .before .before .before .before .before .before .before .before .sibling .ensures) (c .before .before .before .before .before .before .before .both .ensures) (c .before .before .before .before .before .both2 .ensures) (c .before .before .before .both3 .ensures) (c .before .before .touches-hold .ensures) (c .before .both4 .ensures) (c .both5 .ensures)))
+    (λ c. minus-goes _ _ _ _ (c .before .before .before .before .before .before .before .before .before .before .state .ensures) _ (c .before .before .before .before .before .before .before .is-through .ensures) _ _ _ _ _ (c .before .before .before .before .before .before .before .before .before .is-grow .ensures) (c .before .before .before .before .before .before .before .before .sibling .ensures) (c .before .before .before .before .before .before .both .ensures) (c .before .before .before .before .both2 .ensures) (c .before .before .both3 .ensures) _ (not-false _ (c .before .if1 .left)) (c .touches-hold .ensures)))

@@ -4,16 +4,16 @@ use Rattle.sound_slots.specs.Pass.{allFrom}
 use Rattle.sound_slots.specs.OneSlot.{slotHolds}
 use Rattle.table.specs.Words.{tableOf}
 use borrow.Author.Tests.{not-true, not-false}
-use Prim.Native.Nat.{_≤_, _-_}
+use Prim.Native.Nat.{_-_}
 use mathlib.Core.Path.{_≡_, refl, sym, _∙_}
 use Rattle.sound_slots.proofs.slots_hold.Statement.{statement}
 use Rattle.sound_slots.proofs.slots_hold.Tie as tie
 
 abbrev Inv-loop : tie.InvT-loop
-Inv-loop t i₀ i = allFrom (slotHolds (tableOf t)) (256 - i) i ≡ allFrom (slotHolds (tableOf t)) 256 0
+Inv-loop t from to i₀ i = allFrom (slotHolds (tableOf t)) (to - i) i ≡ allFrom (slotHolds (tableOf t)) (to - from) from
 
 abbrev μ-loop : tie.MeasureT-loop
-μ-loop t i₀ i = 256 - i
+μ-loop t from to i₀ i = to - i
 
 pub slots-hold-spec : {M : Type 1} → statement M
 slots-hold-spec =

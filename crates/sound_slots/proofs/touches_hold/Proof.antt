@@ -1,4 +1,7 @@
+use Rattle.sound_slots.proofs.Steps.{stops, goes}
 use Rattle.sound_slots.specs.OneSlot.{touchesHold}
+use mathlib.Core.Path.{sym, _∙_}
+use borrow.Author.Tests.{not-true, not-false}
 use borrow.Author.Needs.{needs}
 use Rattle.sound_slots.proofs.touches_hold.Statement.{statement}
 use Rattle.sound_slots.proofs.touches_hold.Tie as tie
@@ -8,6 +11,6 @@ unfolding touchesHold
 touches-hold-spec =
     tie.close (tie.spec
     (λ c κs. search needs)
+    (λ c. stops _ _ (sym (c .before .touch-holds .ensures) ∙ not-true _ (c .if1 .taken)))
     (λ c κs. search needs)
-    (λ c κs. search needs)
-    (λ c. cc))
+    (λ c. goes _ _ _ (sym (c .before .before .touch-holds .ensures) ∙ not-false _ (c .before .if1 .left)) (c .touch-holds2 .ensures)))

@@ -1,7 +1,6 @@
 use borrow.Author.Needs.{needs}
 use Rattle.sound_walks.proofs.Steps.{sweep-end, sweep-stop, sweep-more}
-use Rattle.sound_walks.specs.Marks.{listStep}
-use Rattle.sound_walks.specs.Marks.{sweep}
+use Rattle.sound_walks.specs.Marks.{listStep, sweep}
 use Rattle.table.specs.Words.{tableOf}
 use borrow.Author.Tests.{not-true, not-false}
 use lib.ListN.{length}

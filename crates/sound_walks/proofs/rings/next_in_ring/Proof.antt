@@ -1,5 +1,4 @@
 use Rattle.sound_walks.proofs.Steps.{ring-back, ring-on}
-use borrow.Author.Tests.{eq-eqb, ne-eqb}
 use borrow.Author.Needs.{needs}
 use Rattle.sound_walks.proofs.rings.next_in_ring.Statement.{statement}
 use Rattle.sound_walks.proofs.rings.next_in_ring.Tie as tie

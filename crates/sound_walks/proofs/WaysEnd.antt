@@ -1,4 +1,4 @@
--- The pass with remembered depths gives S7 of outer nodes.
+-- The pass with remembered depths gives S7 of outer nodes, and asks for the marks of S5 and S6.
 use mathlib.Core.Path.{_≡_, refl, sym, ap, _∙_}
 use mathlib.Core.List.{List}
 use mathlib.Core.Bool.{Bool, true, false, _&&_, not}
@@ -6,20 +6,18 @@ use Prim.Native.Nat.{ℕ, zero, suc, _+_, _-_, _≤_, _<_}
 use native.Mathlib.Decide.{ℕ-discrete, decLt}
 use native.Mathlib.Omega.{arith}
 use lib.Dec.{eqb, leb}
-use lib.ListN.{length, getD, set, replicate, length-replicate, getD-replicate, List·getD-eq-default}
+use lib.ListN.{length, getD, set, length-replicate, getD-replicate, List·getD-eq-default}
 use lib.Seq.{getD-set-same, getD-set-other, set-out}
-use borrow.Author.Tests.{eqb-true, eqb-false, leb-true, le-leb, not-true}
+use borrow.Author.Tests.{eqb-false, leb-true, le-leb, not-true}
 use Rattle.lists.specs.Choice.{pick}
-use Rattle.slot.specs.Number.{none}
 use Rattle.table.specs.Table.{Table}
-use Rattle.nodes.specs.Nodes.{outer}
+use Rattle.nodes.specs.Nodes.{inner}
 use Rattle.rules.specs.Slots.{isNone, up}
 use Rattle.rules.specs.Walk.{ends}
-use Rattle.rules.specs.Sound.{_⇒_}
 use Rattle.sound_slots.specs.Pass.{allFrom}
-use Rattle.sound_walks.specs.Marks.{Judged, judgedOf, sweep}
-use Rattle.sound_walks.specs.Depths.{measured, recorded, depthStep}
-use Rattle.sound_walks.proofs.Truth.{lie, bool-ext, by-cases, and-left, and-right, and-both, or-left, or-right, if-then}
+use Rattle.sound_walks.specs.Marks.{marked, Judged, judgedOf, sweep}
+use Rattle.sound_walks.specs.Depths.{measured, recorded, depthStep, wayStep}
+use Rattle.sound_walks.proofs.Truth.{lie, bool-ext, by-cases, and-left, and-right, and-both, or-left, or-right}
 use Rattle.sound_walks.proofs.Sweeps.{sweep-zero, sweep-on, sweep-off}
 use Rattle.sound_walks.proofs.Paths.{unseen}
 
@@ -182,32 +180,21 @@ module _ (t : Table) where
         measured-back 257 n 0 (leb-true (measured t l 257 n 0) 257 e)
         (λ d q r. let q′ : measured t l 257 n 0 ≡ d = q ∙ omega arith in rw q′ (known-recorded d n l kn r))
 
-  abbrev pub reachesTop : ℕ → Bool
-  reachesTop n = outer t n ⇒ ends 257 (up t) n
-
-  pub depth-skips : (n : ℕ) (l : List ℕ) → outer t n ≡ false → depthStep t n l ≡ judgedOf true l
-  unfolding depthStep
-  depth-skips n l o = by-cases (isNone (up t n)) (λ u. rw u) (λ u. rw (u, o))
-
-  top-reaches : (n : ℕ) → isNone (up t n) ≡ true → reachesTop n ≡ true
+  pub top-reaches : (n : ℕ) → isNone (up t n) ≡ true → ends 257 (up t) n ≡ true
   top-reaches n u =
-      if-then (outer t n) (ends 257 (up t) n)
-      (λ o.
       by-cases (isNone n)
       (λ e. comes-ends 0 257 n (omega arith) (comes-here n e))
-      (λ e. comes-ends 1 257 n (omega arith) (comes-from 0 n e (comes-here (up t n) u))))
+      (λ e. comes-ends 1 257 n (omega arith) (comes-from 0 n e (comes-here (up t n) u)))
 
-  depth-judges : (n : ℕ) (l : List ℕ) → Known l → depthStep t n l .ok ≡ reachesTop n
+  depth-judges : (n : ℕ) (l : List ℕ) → Known l → depthStep t n l .ok ≡ ends 257 (up t) n
   unfolding depthStep
   depth-judges n l k =
       by-cases (isNone (up t n))
       (λ u. rw (u, top-reaches n u))
       (λ u.
-      by-cases (outer t n)
-      (λ o. by-cases (leb (measured t l 257 n 0) 257)
-      (λ e. rw (u, o, ← depth-ends l k n, e))
-      (λ e. rw (u, o, ← depth-ends l k n, e)))
-      (λ o. rw (u, o)))
+      by-cases (leb (measured t l 257 n 0) 257)
+      (λ e. rw (u, ← depth-ends l k n, e))
+      (λ e. rw (u, ← depth-ends l k n, e)))
 
   depth-keeps : (n : ℕ) (l : List ℕ) → Known l → depthStep t n l .ok ≡ true → Known (depthStep t n l .seen)
   unfolding depthStep
@@ -215,11 +202,72 @@ module _ (t : Table) where
       by-cases (isNone (up t n))
       (λ u. rw u k)
       (λ u.
-      by-cases (outer t n)
-      (λ o. by-cases (leb (measured t l 257 n 0) 257)
-      (λ e. rw (u, o, e) (depth-known l k n e))
-      (λ e. let h′ : false ≡ true = rw (u, o, e) at h in lie h′))
-      (λ o. rw (u, o) k))
+      by-cases (leb (measured t l 257 n 0) 257)
+      (λ e. rw (u, e) (depth-known l k n e))
+      (λ e. let h′ : false ≡ true = rw (u, e) at h in lie h′))
 
-  pub ways-right : sweep (depthStep t) 256 0 unseen .ok ≡ allFrom reachesTop 256 0
-  ways-right = judged-all reachesTop (depthStep t) Known depth-judges depth-keeps 256 0 unseen known-start
+  -- ---- the last pass, with the marks of lists and rings
+
+  module _ (l m : List ℕ) where
+    abbrev pub wayFine : ℕ → Bool
+    wayFine n = pick (isNone (up t n)) true (pick (inner t n) (marked m n) (marked l n && ends 257 (up t) n))
+
+    pub way-skips : (n : ℕ) (deep : List ℕ) → isNone (up t n) ≡ true → wayStep t l m n deep ≡ judgedOf true deep
+    unfolding wayStep
+    way-skips n deep u = rw u
+
+    way-judges : (n : ℕ) (deep : List ℕ) → Known deep → wayStep t l m n deep .ok ≡ wayFine n
+    unfolding wayStep
+    way-judges n deep k =
+        by-cases (isNone (up t n))
+        (λ u. rw u)
+        (λ u.
+        by-cases (inner t n)
+        (λ i. rw (u, i))
+        (λ i.
+        by-cases (marked l n)
+        (λ e. rw (u, i, e) (depth-judges n deep k))
+        (λ e. rw (u, i, e))))
+
+    way-keeps : (n : ℕ) (deep : List ℕ) → Known deep → wayStep t l m n deep .ok ≡ true → Known (wayStep t l m n deep .seen)
+    unfolding wayStep
+    way-keeps n deep k h =
+        by-cases (isNone (up t n))
+        (λ u. rw u k)
+        (λ u.
+        by-cases (inner t n)
+        (λ i. rw (u, i) k)
+        (λ i.
+        by-cases (marked l n)
+        (λ e. let h′ : depthStep t n deep .ok ≡ true = rw (u, i, e) at h in rw (u, i, e) (depth-keeps n deep k h′))
+        (λ e. rw (u, i, e) k)))
+
+    pub ways-right : sweep (wayStep t l m) 256 0 unseen .ok ≡ allFrom wayFine 256 0
+    ways-right = judged-all wayFine (wayStep t l m) Known way-judges way-keeps 256 0 unseen known-start
+
+    -- ---- what it says of a slot
+
+    module _ (n : ℕ) where
+      pub way-ringed : wayFine n ≡ true → isNone (up t n) ≡ false → inner t n ≡ true → marked m n ≡ true
+      way-ringed h u i = rw (u, i) at h
+
+      pub way-listed : wayFine n ≡ true → isNone (up t n) ≡ false → inner t n ≡ false → marked l n ≡ true
+      way-listed h u i = let h′ : (marked l n && ends 257 (up t) n) ≡ true = rw (u, i) at h in and-left (marked l n) (ends 257 (up t) n) h′
+
+      pub way-reaches : wayFine n ≡ true → inner t n ≡ false → ends 257 (up t) n ≡ true
+      way-reaches h i =
+          by-cases (isNone (up t n))
+          (λ u. top-reaches n u)
+          (λ u. let h′ : (marked l n && ends 257 (up t) n) ≡ true = rw (u, i) at h in and-right (marked l n) (ends 257 (up t) n) h′)
+
+      pub way-from :
+          (isNone (up t n) ≡ false → inner t n ≡ true → marked m n ≡ true)
+          → (isNone (up t n) ≡ false → inner t n ≡ false → (marked l n ≡ true) × (ends 257 (up t) n ≡ true))
+          → wayFine n ≡ true
+      way-from f g =
+          by-cases (isNone (up t n))
+          (λ u. rw u)
+          (λ u.
+          by-cases (inner t n)
+          (λ i. rw (u, i) (f u i))
+          (λ i. let p = g u i in rw (u, i) (and-both (marked l n) (ends 257 (up t) n) (p .0) (p .1))))
