@@ -176,6 +176,7 @@ fn grow_holds(t: &Table, n: Node, s: Slot) -> bool
     touches_hold(t, n, above, link)
 }
 
+// Nothing is asked of the child: an outer node below a − node must be Grow, and so has no sibling.
 fn shrink_holds(t: &Table, n: Node, s: Slot) -> bool
     ensures { λ r. ⌜ r ≡ shrinkHolds (tableOf (now (t .entry))) (n .0) (slotOf s) ⌝ }
 {
