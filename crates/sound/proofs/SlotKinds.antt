@@ -1,7 +1,7 @@
 -- What the tests of single slots say as facts: what an outer node is, what an inner node is, and S8.
 use mathlib.Core.Path.{_≡_, refl, sym, ap, _∙_}
 use mathlib.Core.Logic.{_≢_, _⊎_, inl, inr}
-use mathlib.Core.Bool.{not, _&&_}
+use mathlib.Core.Bool.{not, _&&_, _||_}
 use Prim.Native.Nat.{ℕ, _<_}
 use native.Mathlib.Omega.{arith}
 use lib.Dec.{T, eqb, ltb}
@@ -13,17 +13,18 @@ use Rattle.slot.specs.Slot.{Link, Slot, emptySlot, noLink, mirror}
 use Rattle.slot.specs.State.{isPresent, isOuter}
 use Rattle.table.specs.Table.{Table, at}
 use Rattle.table.proofs.Laws.{Full}
-use Rattle.nodes.specs.Nodes.{isBlossom, present, outer, inner}
+use Rattle.nodes.specs.Nodes.{isBlossom, isDefect, present, outer, inner}
+use Rattle.nodes.specs.Climb.{inside}
 use Rattle.rules.specs.Slots.{isNone, isSome, sameLink, isGrow, isShrink, up, next}
 use Rattle.rules.specs.Sound.{_⇒_, farEnd, isDefectInside, s8}
 use Rattle.rules.specs.Facts.{Sizes}
-use Rattle.rules.specs.FactsOfNodes.{FullLink, Virtual, InPair, Paired, Kind, free-node, virtual-node, paired-node, root-node, minus-node, plus-node}
+use Rattle.rules.specs.FactsOfNodes.{FullLink, Virtual, InPair, Paired, Kind, free-node, virtual-node, paired-node, root-node, minus-node, plus-node, OuterChild}
 use Rattle.rules.specs.FactsOfBlossoms.{PresentBlossom, InBlossom}
 use Rattle.rules.proofs.Reflect.{tests, test-case, and→, →and, or→, imp→, →imp, same-or-not, eqb-no}
-use Rattle.rules.proofs.ReflectSlots.{stay↔, grow↔, shrink↔, inner↔, not-present↔, sameLink↔, grow-shrink, stay-shrink}
+use Rattle.rules.proofs.ReflectSlots.{stay↔, grow↔, shrink↔, inner↔, not-present↔, sameLink↔, grow-shrink}
 use Rattle.rules.proofs.Past.{present-some}
 use Rattle.rules.proofs.KindLaws.{far-end-paired, far-end-tree, far-end-inner}
-use Rattle.sound_slots.specs.OneSlot.{isThrough, touchesHold, ringPlaced, innerHolds, pointsBack, pairHolds, stayHolds, growHolds, shrinkHolds, ruleOf, slotHolds}
+use Rattle.sound_slots.specs.OneSlot.{isThrough, isFarTouch, touchesHold, ringPlaced, innerHolds, pointsBack, pairHolds, stayHolds, growHolds, shrinkHolds, ruleOf, slotHolds}
 
 -- a slot that is given out and judged, or an empty one
 module _ (t : Table) (full : Full t) (sizes : Sizes t)
@@ -38,12 +39,19 @@ module _ (t : Table) (full : Full t) (sizes : Sizes t)
     some-touch : (n x : ℕ) → T (isDefectInside t x n) → n ≢ none
     some-touch n x h = let r = simp tests at h in let b = sizes .begin-fits in λ e. omega (arith, r .0, b, e)
 
+    some-far-touch : (n far : ℕ) → T (isFarTouch t far n) → n ≢ none
+    some-far-touch n far h =
+        let q = and→ (isDefect t n) (eqb n (at t far .link .touch) || inside t far n) h in
+        let l : n < t .begin = simp tests at (q .0) in
+        let b = sizes .begin-fits in
+        λ e. omega (arith, l, b, e)
+
     full-link : (n far : ℕ) (l : Link) → T (isThrough l) → T (touchesHold t n far l) → FullLink l
     unfolding touchesHold
     full-link n far l h k =
         let r = simp tests at h in
-        let q = and→ (isDefectInside t n (l .touch)) (isDefectInside t far (l .peerTouch)) k in
-        record { has-touch = some-touch (l .touch) n (q .0); has-through = r .0; has-peer-touch = some-touch (l .peerTouch) far (q .1); has-peer-through = r .1 }
+        let q = and→ (isDefectInside t n (l .touch)) (isFarTouch t far (l .peerTouch)) k in
+        record { has-touch = some-touch (l .touch) n (q .0); has-through = r .0; has-peer-touch = some-far-touch (l .peerTouch) far (q .1); has-peer-through = r .1 }
 
     -- ---- Stay
 
@@ -145,35 +153,62 @@ module _ (t : Table) (full : Full t) (sizes : Sizes t)
                 plus-node (record { grows = e; linked = full-link n (up t n) (at t n .link) (r .0) (q .1); siblingless = s; parent-shrinks = shrink↔ _ .0 (r .1) })
           ]
 
-      shrink-kind : at t n .state ≡ S.Shrink → Kind t n
-      unfolding shrinkHolds
-      shrink-kind e =
-          let h = and→ (isThrough (at t n .link) && isGrow (at t (up t n) .state) && isSome (at t n .firstChild) && isNone (next t (at t n .firstChild))) _ (rule n S.Shrink e tt) in
-          let c = and→ (isThrough (at t n .link) && isGrow (at t (up t n) .state) && isSome (at t n .firstChild)) _ (h .0) in
-          let b = and→ (isThrough (at t n .link) && isGrow (at t (up t n) .state)) _ (c .0) in
-          let a = and→ (isThrough (at t n .link)) (isGrow (at t (up t n) .state)) (b .0) in
-          minus-node (record {
-            shrinks = e;
-            linked = full-link n (up t n) (at t n .link) (a .0) (h .1);
-            parent-grows = grow↔ _ .0 (a .1);
-            has-child = simp tests at (b .1);
-            only-child = simp tests at (c .1);
-          })
+    minus-parts : (n : ℕ) → at t n .state ≡ S.Shrink
+        → T (isThrough (at t n .link) && isGrow (at t (up t n) .state) && isSome (at t n .firstChild)) × T (touchesHold t n (up t n) (at t n .link))
+    unfolding shrinkHolds
+    minus-parts n e = and→ (isThrough (at t n .link) && isGrow (at t (up t n) .state) && isSome (at t n .firstChild)) _ (rule n S.Shrink e tt)
+
+    minus-parent : (n : ℕ) → at t n .state ≡ S.Shrink → at t (up t n) .state ≡ S.Grow
+    minus-parent n e =
+        let b = and→ (isThrough (at t n .link) && isGrow (at t (up t n) .state)) (isSome (at t n .firstChild)) (minus-parts n e .0) in
+        grow↔ _ .0 (and→ (isThrough (at t n .link)) (isGrow (at t (up t n) .state)) (b .0) .1)
+
+    grow-siblingless : (n : ℕ) → at t n .state ≡ S.Grow → next t n ≡ none
+    unfolding growHolds
+    grow-siblingless n e = let h = and→ (isNone (next t n)) _ (rule n S.Grow e tt) .0 in simp tests at h
 
     stay-kind : (n : ℕ) → T (present t n) → at t n .state ≡ S.Stay → Kind t n
     stay-kind n p e = elim (same-or-not (next t n) none) [ inl f ↦ virtual-node (stay-virtual n e f) | inr d ↦ paired-node (stay-paired n p e d) ]
 
-    -- what an outer node is
-    pub kind : (n : ℕ) → T (outer t n) → Kind t n
-    kind n o = go (at t n .state) refl o
-      where
-        go : (x : State) → at t n .state ≡ x → T (isOuter x) → Kind t n
-        go S.Empty e o = absurd o
-        go S.Inner e o = absurd o
-        go S.Stay e o = stay-kind n (rw e tt) e
-        go S.Grow e o = grow-kind n e
-        go S.Shrink e o = shrink-kind n e
-        go S.Damaged e o = absurd o
+    -- ---- what an outer node is, where a first child names its parent
+
+    module _ (first : (n : ℕ) → T (outer t n) → at t n .firstChild ≢ none → OuterChild t n (at t n .firstChild)) where
+      -- an outer node below a − node is Grow, so it has no sibling
+      below-minus : (n c : ℕ) → at t n .state ≡ S.Shrink → OuterChild t n c → next t c ≡ none
+      below-minus n c e k = go (at t c .state) refl (k .0)
+        where
+          go : (x : State) → at t c .state ≡ x → T (isOuter x) → next t c ≡ none
+          go S.Empty h o = absurd o
+          go S.Inner h o = absurd o
+          go S.Stay h o = let r = simp tests at (stay-parts c h .0) in absurd (present-some t full n (rw e tt) (sym (k .1) ∙ r .0 .1))
+          go S.Grow h o = grow-siblingless c h
+          go S.Shrink h o = absurd (grow-shrink (ap (λ (j : ℕ). at t j .state) (sym (k .1)) ∙ minus-parent c h) e)
+          go S.Damaged h o = absurd o
+
+      shrink-kind : (n : ℕ) → at t n .state ≡ S.Shrink → Kind t n
+      shrink-kind n e =
+          let h = minus-parts n e in
+          let b = and→ (isThrough (at t n .link) && isGrow (at t (up t n) .state)) (isSome (at t n .firstChild)) (h .0) in
+          let a = and→ (isThrough (at t n .link)) (isGrow (at t (up t n) .state)) (b .0) in
+          let c : at t n .firstChild ≢ none = simp tests at (b .1) in
+          minus-node (record {
+            shrinks = e;
+            linked = full-link n (up t n) (at t n .link) (a .0) (h .1);
+            parent-grows = minus-parent n e;
+            has-child = c;
+            only-child = below-minus n (at t n .firstChild) e (first n (rw e tt) c);
+          })
+
+      pub kind : (n : ℕ) → T (outer t n) → Kind t n
+      kind n o = go (at t n .state) refl o
+        where
+          go : (x : State) → at t n .state ≡ x → T (isOuter x) → Kind t n
+          go S.Empty e o = absurd o
+          go S.Inner e o = absurd o
+          go S.Stay e o = stay-kind n (rw e tt) e
+          go S.Grow e o = grow-kind n e
+          go S.Shrink e o = shrink-kind n e
+          go S.Damaged e o = absurd o
 
     -- ---- S1
 
@@ -211,6 +246,73 @@ module _ (t : Table) (full : Full t) (sizes : Sizes t)
 
     -- ---- S8
 
+    -- what a slot's link stores, and where it leads
+    data Linked (n : ℕ) : Type 0 where
+      unlinked : at t n .link ≡ noLink → Linked n
+      virtually : T (isDefectInside t n (at t n .link .touch)) → at t n .link .peerTouch ≡ none → Linked n
+      linked-to : (far : ℕ) → farEnd t n ≡ far → T (touchesHold t n far (at t n .link)) → Linked n
+
+    stay-linked : (n : ℕ) → at t n .state ≡ S.Stay → Linked n
+    stay-linked n e =
+        elim (same-or-not (next t n) none) [
+          | inl f ↦
+              let h : T (isNone (at t n .link .peerTouch) && isDefectInside t n (at t n .link .touch)) = rw f at (stay-parts n e .1) in
+              let q = and→ (isNone (at t n .link .peerTouch)) (isDefectInside t n (at t n .link .touch)) h in
+              virtually (q .1) (simp tests at (q .0))
+          | inr d ↦
+              let h : T (pairHolds t n (at t n) && touchesHold t n (next t n) (at t n .link)) = rw (eqb-no (next t n) none d) at (stay-parts n e .1) in
+              let q = and→ (pairHolds t n (at t n)) (touchesHold t n (next t n) (at t n .link)) h in
+              linked-to (next t n) (far-end-paired t n (next t n) (stay-paired n (rw e tt) e d)) (q .1)
+        ]
+
+    grow-linked : (n : ℕ) → at t n .state ≡ S.Grow → Linked n
+    unfolding growHolds
+    grow-linked n e =
+        let h = and→ (isNone (next t n)) _ (rule n S.Grow e tt) in
+        elim (same-or-not (up t n) none) [
+          | inl u ↦ let k : T (sameLink (at t n .link) noLink) = rw u at (h .1) in unlinked (sameLink↔ (at t n .link) noLink .0 k)
+          | inr u ↦
+              let k : T ((isThrough (at t n .link) && isShrink (at t (up t n) .state)) && touchesHold t n (up t n) (at t n .link)) = rw (eqb-no (up t n) none u) at (h .1) in
+              linked-to (up t n) (far-end-tree t n (rw e tt) u) (and→ (isThrough (at t n .link) && isShrink (at t (up t n) .state)) _ k .1)
+        ]
+
+    shrink-linked : (n : ℕ) → at t n .state ≡ S.Shrink → Linked n
+    shrink-linked n e =
+        let u : up t n ≢ none = present-some t full (up t n) (rw (minus-parent n e) tt) in
+        linked-to (up t n) (far-end-tree t n (rw e tt) u) (minus-parts n e .1)
+
+    linked : (n : ℕ) → Linked n
+    linked n = go (at t n .state) refl
+      where
+        go : (x : State) → at t n .state ≡ x → Linked n
+        go S.Empty e = unlinked (ap (λ (s : Slot). s .link) (empty n e))
+        go S.Inner e = linked-to (next t n) (far-end-inner t n (inner↔ _ .1 e)) (inner-parts n e .1)
+        go S.Stay e = stay-linked n e
+        go S.Grow e = grow-linked n e
+        go S.Shrink e = shrink-linked n e
+        go S.Damaged e = absurd (undamaged n e)
+
+    both-touches : (n far : ℕ) → T (touchesHold t n far (at t n .link)) → T (isDefectInside t n (at t n .link .touch)) × T (isFarTouch t far (at t n .link .peerTouch))
+    unfolding touchesHold
+    both-touches n far h = and→ (isDefectInside t n (at t n .link .touch)) (isFarTouch t far (at t n .link .peerTouch)) h
+
+    -- a node's own touch is judged there
+    own-touch : (n : ℕ) → Linked n → at t n .link .touch ≢ none → T (isDefectInside t n (at t n .link .touch))
+    own-touch n (unlinked e) d = absurd (d (ap (λ (l : Link). l .touch) e))
+    own-touch n (virtually h e) d = h
+    own-touch n (linked-to far e h) d = both-touches n far h .0
+
+    -- .. so a peer touch that is the far end's own touch is inside it too
+    far-touch : (far n : ℕ) → T (isFarTouch t far n) → T (isDefectInside t far n)
+    far-touch far n h =
+        let q = and→ (isDefect t n) (eqb n (at t far .link .touch) || inside t far n) h in
+        elim (or→ (eqb n (at t far .link .touch)) (inside t far n) (q .1)) [
+          | inl k ↦
+              let e : n ≡ at t far .link .touch = simp tests at k in
+              rw e (own-touch far (linked far) (λ z. some-far-touch n far h (e ∙ z)))
+          | inr k ↦ →and (isDefect t n) (inside t far n) (q .0) k
+        ]
+
     module _ (n : ℕ) where
       touch-and-peer :
           (T (isSome (at t n .link .touch)) → T (isDefectInside t n (at t n .link .touch)))
@@ -222,62 +324,14 @@ module _ (t : Table) (full : Full t) (sizes : Sizes t)
           (→imp (isSome (at t n .link .touch)) (isDefectInside t n (at t n .link .touch)) f)
           (→imp (isSome (at t n .link .peerTouch)) (isDefectInside t (farEnd t n) (at t n .link .peerTouch)) g)
 
-      both-touch : (far : ℕ) → farEnd t n ≡ far → T (touchesHold t n far (at t n .link)) → T (s8 t n)
-      unfolding touchesHold
-      both-touch far e h =
-          let q = and→ (isDefectInside t n (at t n .link .touch)) (isDefectInside t far (at t n .link .peerTouch)) h in
-          touch-and-peer (λ _. q .0) (λ _. rw e (q .1))
-
-      one-touches : T (isDefectInside t n (at t n .link .touch)) → at t n .link .peerTouch ≡ none → T (s8 t n)
-      one-touches h e = touch-and-peer (λ _. h) (λ k. let d : at t n .link .peerTouch ≢ none = simp tests at k in absurd (d e))
-
-      none-touches : at t n .link ≡ noLink → T (s8 t n)
+      no-touches : at t n .link ≡ noLink → T (s8 t n)
       unfolding s8
-      none-touches e = rw e tt
+      no-touches e = rw e tt
 
-      stay-touches : at t n .state ≡ S.Stay → T (s8 t n)
-      stay-touches e =
-          elim (same-or-not (next t n) none) [
-            | inl f ↦
-                let h : T (isNone (at t n .link .peerTouch) && isDefectInside t n (at t n .link .touch)) = rw f at (stay-parts n e .1) in
-                let q = and→ (isNone (at t n .link .peerTouch)) (isDefectInside t n (at t n .link .touch)) h in
-                one-touches (q .1) (simp tests at (q .0))
-            | inr d ↦
-                let h : T (pairHolds t n (at t n) && touchesHold t n (next t n) (at t n .link)) = rw (eqb-no (next t n) none d) at (stay-parts n e .1) in
-                let q = and→ (pairHolds t n (at t n)) (touchesHold t n (next t n) (at t n .link)) h in
-                both-touch (next t n) (far-end-paired t n (next t n) (stay-paired n (rw e tt) e d)) (q .1)
-          ]
-
-      grow-touches : at t n .state ≡ S.Grow → T (s8 t n)
-      unfolding growHolds
-      grow-touches e =
-          let h = and→ (isNone (next t n)) _ (rule n S.Grow e tt) in
-          elim (same-or-not (up t n) none) [
-            | inl u ↦ let k : T (sameLink (at t n .link) noLink) = rw u at (h .1) in none-touches (sameLink↔ (at t n .link) noLink .0 k)
-            | inr u ↦
-                let k : T ((isThrough (at t n .link) && isShrink (at t (up t n) .state)) && touchesHold t n (up t n) (at t n .link)) = rw (eqb-no (up t n) none u) at (h .1) in
-                both-touch (up t n) (far-end-tree t n (rw e tt) u) (and→ (isThrough (at t n .link) && isShrink (at t (up t n) .state)) _ k .1)
-          ]
-
-      shrink-touches : at t n .state ≡ S.Shrink → Kind t n → T (s8 t n)
-      unfolding shrinkHolds
-      shrink-touches e (minus-node m) =
-          let u : up t n ≢ none = present-some t full (up t n) (rw (m .parent-grows) tt) in
-          both-touch (up t n) (far-end-tree t n (rw e tt) u)
-          (and→ (isThrough (at t n .link) && isGrow (at t (up t n) .state) && isSome (at t n .firstChild) && isNone (next t (at t n .firstChild))) _ (rule n S.Shrink e tt) .1)
-      shrink-touches e (free-node f) = absurd (grow-shrink (f .grows) e)
-      shrink-touches e (virtual-node v) = absurd (stay-shrink (v .stays) e)
-      shrink-touches e (paired-node p) = absurd (stay-shrink (p .here .stays) e)
-      shrink-touches e (root-node r) = absurd (grow-shrink (r .grows) e)
-      shrink-touches e (plus-node p) = absurd (grow-shrink (p .grows) e)
+      by-link : Linked n → T (s8 t n)
+      by-link (unlinked e) = no-touches e
+      by-link (virtually h e) = touch-and-peer (λ _. h) (λ k. let d : at t n .link .peerTouch ≢ none = simp tests at k in absurd (d e))
+      by-link (linked-to far e h) = touch-and-peer (λ _. both-touches n far h .0) (λ _. rw e (far-touch far (at t n .link .peerTouch) (both-touches n far h .1)))
 
       pub touches : T (s8 t n)
-      touches = go (at t n .state) refl
-        where
-          go : (x : State) → at t n .state ≡ x → T (s8 t n)
-          go S.Empty e = none-touches (ap (λ (s : Slot). s .link) (empty n e))
-          go S.Inner e = both-touch (next t n) (far-end-inner t n (inner↔ _ .1 e)) (inner-parts n e .1)
-          go S.Stay e = stay-touches e
-          go S.Grow e = grow-touches e
-          go S.Shrink e = shrink-touches e (shrink-kind n e)
-          go S.Damaged e = absurd (undamaged n e)
+      touches = by-link (linked n)

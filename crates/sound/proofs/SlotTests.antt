@@ -1,7 +1,7 @@
 -- On a sound table each slot passes the test of its state, and the slots that are not given out are vacant.
 use mathlib.Core.Path.{_≡_, refl}
 use mathlib.Core.Logic.{_≢_, inr}
-use mathlib.Core.Bool.{not, _&&_}
+use mathlib.Core.Bool.{not, _&&_, _||_}
 use Prim.Native.Nat.{ℕ}
 use lib.Dec.{T, eqb, ltb}
 use Rattle.slot.specs.declared.state.State.{State}
@@ -11,7 +11,8 @@ use Rattle.slot.specs.Slot.{Link, noLink, mirror}
 use Rattle.slot.specs.State.{isPresent}
 use Rattle.table.specs.Table.{Table, at}
 use Rattle.table.proofs.Laws.{Full}
-use Rattle.nodes.specs.Nodes.{isBlossom, outer, inner}
+use Rattle.nodes.specs.Nodes.{isBlossom, isDefect, outer, inner}
+use Rattle.nodes.specs.Climb.{inside}
 use Rattle.rules.specs.Slots.{isNone, isSome, sameLink, isStay, isGrow, isShrink, up, next}
 use Rattle.rules.specs.Sound.{_⇒_, S8, farEnd, isDefectInside, isBare, s8, sound}
 use Rattle.rules.specs.Facts.{Given, Core, Rest}
@@ -21,7 +22,7 @@ use Rattle.rules.proofs.ReflectSlots.{stay↔, grow↔, shrink↔, sameLink↔,
 use Rattle.rules.proofs.Past.{present-some}
 use Rattle.rules.proofs.KindLaws.{far-end-paired, far-end-tree, far-end-inner}
 use Rattle.rules.proofs.SoundParts.{sound→everywhere, sound→core, sound→rest}
-use Rattle.sound_slots.specs.OneSlot.{isThrough, touchesHold, ringPlaced, innerHolds, pointsBack, pairHolds, stayHolds, growHolds, shrinkHolds, ruleOf, slotHolds, isVacant, vacantOf}
+use Rattle.sound_slots.specs.OneSlot.{isThrough, isFarTouch, touchesHold, ringPlaced, innerHolds, pointsBack, pairHolds, stayHolds, growHolds, shrinkHolds, ruleOf, slotHolds, isVacant, vacantOf}
 
 module _ (t : Table) (full : Full t) (h : T (sound t)) where
   core : Core t
@@ -46,10 +47,17 @@ module _ (t : Table) (full : Full t) (h : T (sound t)) where
     touched-far : at t n .link .peerTouch ≢ none → T (isDefectInside t (farEnd t n) (at t n .link .peerTouch))
     touched-far d = imp→ (isSome (at t n .link .peerTouch)) (isDefectInside t (farEnd t n) (at t n .link .peerTouch)) (eighth .1) (simp tests d)
 
+    far-touched : (far : ℕ) → T (isDefectInside t far (at t n .link .peerTouch)) → T (isFarTouch t far (at t n .link .peerTouch))
+    far-touched far h =
+        let m : ℕ = at t n .link .peerTouch in
+        let q = and→ (isDefect t m) (inside t far m) h in
+        →and (isDefect t m) (eqb m (at t far .link .touch) || inside t far m) (q .0) (→or (eqb m (at t far .link .touch)) (inside t far m) (inr (q .1)))
+
     touching : (far : ℕ) → farEnd t n ≡ far → FullLink (at t n .link) → T (touchesHold t n far (at t n .link))
     unfolding touchesHold
     touching far e f =
-        →and (isDefectInside t n (at t n .link .touch)) (isDefectInside t far (at t n .link .peerTouch)) (touched (f .has-touch)) (rw e at (touched-far (f .has-peer-touch)))
+        →and (isDefectInside t n (at t n .link .touch)) (isFarTouch t far (at t n .link .peerTouch)) (touched (f .has-touch))
+        (far-touched far (rw e at (touched-far (f .has-peer-touch))))
 
   -- ---- each state
 
@@ -102,16 +110,14 @@ module _ (t : Table) (full : Full t) (h : T (sound t)) where
         (→and (isThrough (at t n .link)) (isShrink (at t (up t n) .state)) (through (at t n .link) f) (shrink↔ _ .1 e))
         (touching n (up t n) (far-end-tree t n o u) f)))
 
-    minus-test : T (outer t n) → at t (up t n) .state ≡ S.Grow → at t n .firstChild ≢ none → next t (at t n .firstChild) ≡ none → FullLink (at t n .link) → T (shrinkHolds t n (at t n))
+    minus-test : T (outer t n) → at t (up t n) .state ≡ S.Grow → at t n .firstChild ≢ none → FullLink (at t n .link) → T (shrinkHolds t n (at t n))
     unfolding shrinkHolds
-    minus-test o e c s f =
+    minus-test o e c f =
         let u : up t n ≢ none = present-some t full (up t n) (rw e tt) in
-        →and (isThrough (at t n .link) && isGrow (at t (up t n) .state) && isSome (at t n .firstChild) && isNone (next t (at t n .firstChild))) (touchesHold t n (up t n) (at t n .link))
-        (→and (isThrough (at t n .link) && isGrow (at t (up t n) .state) && isSome (at t n .firstChild)) (isNone (next t (at t n .firstChild)))
+        →and (isThrough (at t n .link) && isGrow (at t (up t n) .state) && isSome (at t n .firstChild)) (touchesHold t n (up t n) (at t n .link))
         (→and (isThrough (at t n .link) && isGrow (at t (up t n) .state)) (isSome (at t n .firstChild))
         (→and (isThrough (at t n .link)) (isGrow (at t (up t n) .state)) (through (at t n .link) f) (grow↔ _ .1 e))
         (simp tests c))
-        (simp tests s))
         (touching n (up t n) (far-end-tree t n o u) f)
 
     stay-test : at t n .state ≡ S.Stay → Kind t n → T (stayHolds t n (at t n))
@@ -135,7 +141,7 @@ module _ (t : Table) (full : Full t) (h : T (sound t)) where
     shrink-test e (virtual-node v) = absurd (stay-shrink (v .stays) e)
     shrink-test e (paired-node p) = absurd (stay-shrink (p .here .stays) e)
     shrink-test e (root-node r) = absurd (grow-shrink (r .grows) e)
-    shrink-test e (minus-node m) = minus-test (rw e tt) (m .parent-grows) (m .has-child) (m .only-child) (m .linked)
+    shrink-test e (minus-node m) = minus-test (rw e tt) (m .parent-grows) (m .has-child) (m .linked)
     shrink-test e (plus-node p) = absurd (grow-shrink (p .grows) e)
 
     empty-test : at t n .state ≡ S.Empty → T (isBare (at t n))

@@ -15,16 +15,17 @@ use Rattle.rules.specs.Slots.{isNone, isFull, up, next}
 use Rattle.rules.specs.Walk.{ends}
 use Rattle.rules.specs.Sound.{_⇒_, Rule, S1, S2, S3, S4, S5, S6, S7, S8, holds, ringHolds, s5, s6, sound}
 use Rattle.rules.specs.Facts.{Sizes, Given, Names, Pointers, Core}
-use Rattle.rules.specs.FactsOfNodes.{Kind, free-node, virtual-node, paired-node, root-node, minus-node, plus-node}
+use Rattle.rules.specs.FactsOfNodes.{Kind, free-node, virtual-node, paired-node, root-node, minus-node, plus-node, OuterChild}
 use Rattle.rules.specs.FactsOfBlossoms.{PresentBlossom, Ring, InBlossom}
 use Rattle.rules.proofs.Reflect.{tests, →and, →imp}
 use Rattle.rules.proofs.ReflectSlots.{isFull↔, outer-present, inner-present}
+use Rattle.rules.proofs.Chains.{chain-start}
 use Rattle.rules.proofs.OuterKinds.{kind→s3, kind→s4}
 use Rattle.rules.proofs.OuterLists.{s5→children, s7→upward}
 use Rattle.rules.proofs.Insides.{blossom↔, s6→ring, facts→s7}
 use Rattle.rules.proofs.SizesAndPointers.{→s1, pointers↔}
 use Rattle.rules.proofs.SoundParts.{rule→sound}
-use Rattle.rules.proofs.ChildLaws.{first-child, next-child}
+use Rattle.rules.proofs.ChildLaws.{next-child}
 use Rattle.rules.proofs.RingLaws.{ring-first, ring-next}
 use Rattle.sound_slots.specs.OneSlot.{slotHolds}
 use Rattle.sound.proofs.SlotKinds.{kind, undamaged, ring-owner, inner-child, in-blossom, touches}
@@ -38,8 +39,11 @@ module _ (t : Table) (full : Full t) (sizes : Sizes t)
     (rings : (n : ℕ) → PresentBlossom t n → T (ringHolds t n))
     (ways : (n : ℕ) → T (outer t n) → T (ends 257 (up t) n))
   where
+    first : (n : ℕ) → T (outer t n) → at t n .firstChild ≢ none → OuterChild t n (at t n .firstChild)
+    first n o d = let k = s5→children t full n (lists n) o in k .exact (at t n .firstChild) .0 (chain-start (next t) (at t n .firstChild) (k .list) (k .chain) d)
+
     kinds : (n : ℕ) → T (outer t n) → Kind t n
-    kinds = kind t full sizes judged empty
+    kinds = kind t full sizes judged empty first
 
     inners : (n : ℕ) → T (inner t n) → InBlossom t n
     inners n i = in-blossom t full sizes judged empty n i (owner n i (inner-child t full sizes judged empty n i))
@@ -79,7 +83,7 @@ module _ (t : Table) (full : Full t) (sizes : Sizes t)
         inner-here (at t n .ring) (r .exact (at t n .ring) .0 (ring-first t n r) .0)
 
     child-named : (n : ℕ) → T (outer t n) → Names t (at t n .firstChild)
-    child-named n o d = outer-here (at t n .firstChild) (first-child t full core n o d .0)
+    child-named n o d = outer-here (at t n .firstChild) (first n o d .0)
 
     nobody : Names t none
     nobody d = absurd (d refl)

@@ -1,16 +1,17 @@
 -- Steps of the code that branch: what was found so far, in the code's order, and then the function's own promise.
-use mathlib.Core.Path.{_≡_, sym, ap, _∙_}
-use mathlib.Core.Bool.{Bool, true, false, _&&_, not}
+use mathlib.Core.Path.{_≡_, refl, sym, ap, _∙_}
+use mathlib.Core.Bool.{Bool, true, false, _&&_, _||_, not}
 use Prim.Native.Nat.{ℕ, _≤_, _<_}
 use lib.Dec.{eqb}
-use borrow.Author.Tests.{eq-eqb, lt-ltb, le-ltb}
+use borrow.Author.Tests.{eq-eqb, ne-eqb, lt-ltb, le-ltb}
 use Rattle.slot.specs.declared.state.State.{State}
 use Rattle.slot.specs.Slot.{Link, Slot, noLink, mirror}
 use Rattle.table.specs.Table.{Table, at}
+use Rattle.nodes.specs.Nodes.{isDefect}
 use Rattle.nodes.specs.Climb.{insideWithin, inside}
-use Rattle.rules.specs.Slots.{isNone, isSome, sameLink, isGrow, isShrink, next}
+use Rattle.rules.specs.Slots.{isNone, isSome, sameLink, isGrow, isShrink}
 use Rattle.rules.specs.Sound.{isDefectInside}
-use Rattle.sound_slots.specs.OneSlot.{isThrough, touchesHold, ringPlaced, pointsBack, pairHolds, growHolds, shrinkHolds, ruleOf, slotHolds, vacantOf, isVacant}
+use Rattle.sound_slots.specs.OneSlot.{isThrough, isFarTouch, touchesHold, ringPlaced, pointsBack, pairHolds, growHolds, shrinkHolds, ruleOf, slotHolds, vacantOf, isVacant}
 
 -- a test that fails decides; one that holds leaves the rest to decide
 pub stops : (a b : Bool) → a ≡ false → false ≡ (a && b)
@@ -18,6 +19,21 @@ stops a b h = rw h
 
 pub goes : (a b r : Bool) → a ≡ true → r ≡ b → r ≡ (a && b)
 goes a b r h e = e ∙ rw h
+
+or-first : (a b : Bool) → a ≡ true → true ≡ (a || b)
+or-first a b h = rw h
+
+or-last : (a b : Bool) → b ≡ true → true ≡ (a || b)
+or-last true b h = refl
+or-last false b h = sym h
+
+or-rest : (a b r : Bool) → a ≡ false → r ≡ b → r ≡ (a || b)
+or-rest a b r h e = e ∙ rw h
+
+-- a node is inside itself
+inside-itself : (t : Table) (x n : ℕ) → n ≡ x → inside t x n ≡ true
+unfolding insideWithin
+inside-itself t x n e = rw (eq-eqb n x e)
 
 -- tests put together one after another
 module _ (p q a b x y : Bool) (e : p ≡ q) (f : x ≡ (p && a)) (g : y ≡ (x && b)) where
@@ -51,10 +67,9 @@ module _ (t : Table) (n : ℕ) (s : Slot) (above : State) (e : above ≡ at t (s
     unfolding growHolds
     plus-goes u i j = goes _ _ _ top (rw some (goes _ _ _ (plus-test ∙ i) j))
 
-  module _ (grows : Bool) (second : ℕ) (placed some r : Bool) (g : grows ≡ isGrow above) (h : second ≡ next t (s .firstChild))
-      (i : placed ≡ (through && grows)) (j : some ≡ (placed && isSome (s .firstChild))) (k : r ≡ (some && isNone second)) where
-    minus-test : (isThrough (s .link) && isGrow (at t (s .parent) .state) && isSome (s .firstChild) && isNone (next t (s .firstChild))) ≡ r
-    minus-test = rw (k, j, i, g, f, e, h)
+  module _ (grows placed r : Bool) (g : grows ≡ isGrow above) (h : placed ≡ (through && grows)) (i : r ≡ (placed && isSome (s .firstChild))) where
+    minus-test : (isThrough (s .link) && isGrow (at t (s .parent) .state) && isSome (s .firstChild)) ≡ r
+    minus-test = rw (i, h, g, f, e)
 
     pub minus-stops : r ≡ false → false ≡ shrinkHolds t n s
     unfolding shrinkHolds
@@ -74,6 +89,31 @@ module _ (t : Table) (x n b : ℕ) (p : b ≡ t .begin) where
 
   pub touch-climbs : (r : Bool) → n < b → r ≡ inside t x n → r ≡ isDefectInside t x n
   touch-climbs r q e = e ∙ rw (← p, lt-ltb n b q)
+
+module _ (t : Table) (far n b : ℕ) (p : b ≡ t .begin) where
+  pub far-blossom : b ≤ n → false ≡ isFarTouch t far n
+  far-blossom q = rw (← p, le-ltb n b q)
+
+  module _ (q : n < b) where
+    defect : isDefect t n ≡ true
+    defect = rw (← p) (lt-ltb n b q)
+
+    abbrev named : Bool
+    named = eqb n (at t far .link .touch)
+
+    pub far-itself : n ≡ far → true ≡ isFarTouch t far n
+    far-itself e = goes (isDefect t n) (named || inside t far n) true defect (or-last named (inside t far n) (inside-itself t far n e))
+
+    module _ (l : Link) (e : l ≡ at t far .link) where
+      same-touch : l .touch ≡ at t far .link .touch
+      same-touch = ap (λ (m : Link). m .touch) e
+
+      pub far-same : n ≡ l .touch → true ≡ isFarTouch t far n
+      far-same h = goes (isDefect t n) (named || inside t far n) true defect (or-first named (inside t far n) (eq-eqb n (at t far .link .touch) (h ∙ same-touch)))
+
+      pub far-climbs : (r : Bool) → (n ≡ l .touch → ⊥) → r ≡ inside t far n → r ≡ isFarTouch t far n
+      far-climbs r h i =
+          goes (isDefect t n) (named || inside t far n) r defect (or-rest named (inside t far n) r (ne-eqb n (at t far .link .touch) (λ z. h (z ∙ sym same-touch))) i)
 
 module _ (t : Table) (n : ℕ) (s : Slot) where
   pub pair-stops : pointsBack t n (s .sibling) ≡ false → false ≡ pairHolds t n s

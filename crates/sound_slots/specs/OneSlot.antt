@@ -9,7 +9,8 @@ use Rattle.slot.specs.declared.state.State.{State}
 use Rattle.slot.specs.declared.state.State.the-variants as S
 use Rattle.slot.specs.Slot.{Link, Slot, noLink, mirror}
 use Rattle.table.specs.Table.{Table, at}
-use Rattle.nodes.specs.Nodes.{isBlossom}
+use Rattle.nodes.specs.Nodes.{isBlossom, isDefect}
+use Rattle.nodes.specs.Climb.{inside}
 use Rattle.rules.specs.Slots.{isNone, isSome, isVertex, sameLink, isStay, isGrow, isShrink, next}
 use Rattle.rules.specs.Sound.{_⇒_, isBare, isDefectInside}
 
@@ -17,9 +18,13 @@ use Rattle.rules.specs.Sound.{_⇒_, isBare, isDefectInside}
 abbrev pub isThrough : Link → Bool
 isThrough l = isVertex (l .through) && isVertex (l .peerThrough)
 
+-- a defect inside the far end, or the far end's own touch, which is judged there
+abbrev pub isFarTouch : Table → ℕ → ℕ → Bool
+isFarTouch t far n = isDefect t n && (eqb n (at t far .link .touch) || inside t far n)
+
 -- S8, with the far end of the link
 unfoldable pub touchesHold : Table → ℕ → ℕ → Link → Bool
-touchesHold t n far l = isDefectInside t n (l .touch) && isDefectInside t far (l .peerTouch)
+touchesHold t n far l = isDefectInside t n (l .touch) && isFarTouch t far (l .peerTouch)
 
 -- S1
 abbrev pub ringPlaced : Table → ℕ → ℕ → Bool
@@ -58,10 +63,10 @@ growHolds t n s =
     (sameLink (s .link) noLink)
     ((isThrough (s .link) && isShrink (at t (s .parent) .state)) && touchesHold t n (s .parent) (s .link))
 
--- S4: a − node
+-- S4: a − node; its child has a − node as parent, is Grow therefore, and has no sibling
 unfoldable pub shrinkHolds : Table → ℕ → Slot → Bool
 shrinkHolds t n s =
-    (isThrough (s .link) && isGrow (at t (s .parent) .state) && isSome (s .firstChild) && isNone (next t (s .firstChild)))
+    (isThrough (s .link) && isGrow (at t (s .parent) .state) && isSome (s .firstChild))
     && touchesHold t n (s .parent) (s .link)
 
 abbrev pub ruleOf : State → Table → ℕ → Slot → Bool

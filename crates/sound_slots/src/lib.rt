@@ -15,7 +15,7 @@ ghost use Prim.Native.Nat.{_+_, _-_};
 ghost use Rattle.slot.specs.Slot.{linkOf, slotOf};
 ghost use Rattle.table.specs.Words.{tableOf};
 ghost use Rattle.rules.specs.Sound.{sizesHold, isDefectInside};
-ghost use Rattle.sound_slots.specs.OneSlot.{touchesHold, ringPlaced, innerHolds, pointsBack, pairHolds, stayHolds, growHolds, shrinkHolds, slotHolds, isVacant};
+ghost use Rattle.sound_slots.specs.OneSlot.{isFarTouch, touchesHold, ringPlaced, innerHolds, pointsBack, pairHolds, stayHolds, growHolds, shrinkHolds, slotHolds, isVacant};
 ghost use Rattle.sound_slots.specs.Pass.{allFrom};
 
 // One past the last blossom given out.
@@ -52,6 +52,24 @@ fn touch_holds(t: &Table, x: Node, touch: Node) -> bool
     nodes::climb::is_inside(t, x, touch)
 }
 
+// A defect inside the link's far end; most often the far end itself, or the touch that it judges as its own.
+fn far_touch_holds(t: &Table, far: Node, touch: Node) -> bool
+    ensures { λ r. ⌜ r ≡ isFarTouch (tableOf (now (t .entry))) (far .0) (touch .0) ⌝ }
+{
+    let begin = counts::begin(t);
+    if begin <= touch.0 {
+        return false;
+    }
+    if touch.0 == far.0 {
+        return true;
+    }
+    let there = nodes::field::link(t, far);
+    if touch.0 == there.touch.0 {
+        return true;
+    }
+    nodes::climb::is_inside(t, far, touch)
+}
+
 // S8 of a link with two touches.
 fn touches_hold(t: &Table, n: Node, far: Node, link: Link) -> bool
     ensures { λ r. ⌜ r ≡ touchesHold (tableOf (now (t .entry))) (n .0) (far .0) (linkOf link) ⌝ }
@@ -59,7 +77,7 @@ fn touches_hold(t: &Table, n: Node, far: Node, link: Link) -> bool
     if !touch_holds(t, n, link.touch) {
         return false;
     }
-    touch_holds(t, far, link.peer_touch)
+    far_touch_holds(t, far, link.peer_touch)
 }
 
 // Only blossoms have a first blossom child.
@@ -158,6 +176,7 @@ fn grow_holds(t: &Table, n: Node, s: Slot) -> bool
     touches_hold(t, n, above, link)
 }
 
+// Nothing is asked of the child: an outer node below a − node must be Grow, and so has no sibling.
 fn shrink_holds(t: &Table, n: Node, s: Slot) -> bool
     ensures { λ r. ⌜ r ≡ shrinkHolds (tableOf (now (t .entry))) (n .0) (slotOf s) ⌝ }
 {
@@ -166,11 +185,9 @@ fn shrink_holds(t: &Table, n: Node, s: Slot) -> bool
     let child = s.first_child;
     let state = nodes::field::state(t, above);
     let grows = value::is_grow(state);
-    let second = nodes::field::sibling(t, child);
     let through = value::is_through(link);
     let placed = both(through, grows);
-    let some = both(placed, child.0 != slot::number::NO_NODE);
-    let own = both(some, second.0 == slot::number::NO_NODE);
+    let own = both(placed, child.0 != slot::number::NO_NODE);
     if !own {
         return false;
     }
