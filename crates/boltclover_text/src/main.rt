@@ -75,16 +75,15 @@ fn print_listing(t: &Table) {
     let mut lines = io::large_buffer();
     let text: &mut [u8] = &mut lines;
     let pos = decimals::write_bytes(text, 0, b"listing\n");
-    match primal::list(t, out) {
-        Answer::Done(written) => {
-            let end = write_answers(text, pos, out, written);
-            print(text, end);
-        }
-        Answer::Refused(refusal) => {
-            let end = text_writing::answer::write_end(text, pos, refusal::number(refusal));
-            print(text, end);
-        }
-    }
+    let end = match primal::list(t, out) {
+        Answer::Done(written) => write_answers(text, pos, out, written),
+        Answer::Refused(refusal) => text_writing::answer::write_end(
+            text,
+            pos,
+            refusal::number(refusal),
+        ),
+    };
+    print(text, end);
 }
 
 fn main() {

@@ -5,46 +5,30 @@ use refusal::Answer;
 use slot::Node;
 use table::Table;
 
-// Stands for a refusal where the bytes of commands are counted.
-const REFUSED: u16 = 65535;
-
-// .. and for a request that is yet to come.
-pub const UNASKED: u16 = 65534;
-
-fn size(answer: Answer) -> u16 {
+pub fn is_done(answer: Answer) -> bool {
     match answer {
-        Answer::Done(written) => {
-            if written < 65534 {
-                written as u16
-            } else {
-                65533
-            }
-        }
-        Answer::Refused(_) => REFUSED,
+        Answer::Done(_) => true,
+        Answer::Refused(_) => false,
     }
 }
 
-pub fn is_done(answer: Answer) -> bool {
-    size(answer) != REFUSED
+fn virtual_conflict(t: &mut Table, out: &mut [u8], first: u8, third: u8) -> bool {
+    is_done(primal::virtual_conflict(t, out, script::virtual_conflict(first, third)))
 }
 
-fn virtual_conflict(t: &mut Table, out: &mut [u8], first: u8, third: u8) -> u16 {
-    size(primal::virtual_conflict(t, out, script::virtual_conflict(first, third)))
-}
-
-fn expand(t: &mut Table, out: &mut [u8], first: u8) -> u16 {
+fn expand(t: &mut Table, out: &mut [u8], first: u8) -> bool {
     let node = Node(script::node(first));
-    size(primal::expand(t, out, Expansion { node: node }))
+    is_done(primal::expand(t, out, Expansion { node: node }))
 }
 
-fn conflict(t: &mut Table, out: &mut [u8], first: u8, second: u8, third: u8, fourth: u8) -> u16 {
-    size(primal::conflict(t, out, script::conflict(first, second, third, fourth)))
+fn conflict(t: &mut Table, out: &mut [u8], first: u8, second: u8, third: u8, fourth: u8) -> bool {
+    is_done(primal::conflict(t, out, script::conflict(first, second, third, fourth)))
 }
 
-// The request that stands first in a script.
-fn first(t: &mut Table, out: &mut [u8], script: &[u8]) -> u16 {
+// The request that stands first in a script. Whether it was accepted.
+fn first(t: &mut Table, out: &mut [u8], script: &[u8]) -> bool {
     if script.len() < 4 {
-        return REFUSED;
+        return false;
     }
     let second = script[1];
     if second == b'!' {
@@ -58,7 +42,7 @@ fn first(t: &mut Table, out: &mut [u8], script: &[u8]) -> u16 {
 
 fn is_accepted(t: &mut Table, script: &[u8]) -> bool {
     let mut out = [0u8; 4096];
-    first(t, &mut out, script) != REFUSED
+    first(t, &mut out, script)
 }
 
 // A fresh table, and a script done on it: each request has a blank after it. Whether all were accepted.
@@ -77,40 +61,33 @@ pub fn prepare(t: &mut Table, script: &[u8]) -> bool {
     true
 }
 
-// Request i of a script, with the i-th 4,096 bytes as its room. The bytes that it wrote go to the i-th of sizes.
-fn nth(t: &mut Table, out: &mut [u8], sizes: &mut [u16], script: &[u8], i: usize) -> bool {
+// Request i of a script, with the i-th 4,096 bytes as its room.
+fn nth(t: &mut Table, out: &mut [u8], script: &[u8], i: usize) -> bool {
     if 6 <= i {
         return false;
     }
-    let from = i * 4096;
-    let to = from + 4096;
-    let word = i * 5;
-    if out.len() < to {
+    if out.len() < 24576 {
         return false;
     }
-    if script.len() < word {
+    if script.len() < i * 5 {
         return false;
     }
-    if sizes.len() <= i {
-        return false;
-    }
-    let size = first(t, &mut out[from..to], &script[word..]);
-    sizes[i] = size;
-    size != REFUSED
+    first(t, &mut out[i * 4096..i * 4096 + 4096], &script[i * 5..])
 }
 
-// Of the requests not asked yet, the one that this many stand before.
-fn unasked(sizes: &[u16], before: usize) -> usize {
+// Of the requests not asked yet, the one that this many stand before; it counts as asked from now on.
+fn take(asked: &mut [bool], before: usize) -> usize {
     let mut left = before;
     let mut i = 0;
-    while i < sizes.len() {
-        let size = sizes[i];
+    while i < asked.len() {
+        let at = i;
         i += 1;
-        if size != UNASKED {
+        if asked[at] {
             continue;
         }
         if left == 0 {
-            return i - 1;
+            asked[at] = true;
+            return at;
         }
         left -= 1;
     }
@@ -119,18 +96,13 @@ fn unasked(sizes: &[u16], before: usize) -> usize {
 
 // The requests of a script in one of their orders. The orders of n requests are numbered from 0: the remainder by n tells which of
 // them comes first, the quotient in which order the others follow. Whether all were accepted.
-pub fn in_order(
-    t: &mut Table,
-    out: &mut [u8],
-    sizes: &mut [u16],
-    script: &[u8],
-    order: usize,
-) -> bool {
+pub fn in_order(t: &mut Table, out: &mut [u8], script: &[u8], order: usize) -> bool {
+    let mut asked = [false; 6];
     let mut left = script.len() / 5;
     let mut rest = order;
     while 0 < left {
-        let i = unasked(sizes, rest % left);
-        if !nth(t, out, sizes, script, i) {
+        let i = take(&mut asked, rest % left);
+        if !nth(t, out, script, i) {
             return false;
         }
         rest = rest / left;

@@ -8,30 +8,15 @@ mod words;
 
 use libc::STDIN_FILENO;
 use libc::STDOUT_FILENO;
-ghost use Prim.Native.Nat.{_≤_, _<_};
+ghost use Prim.Native.Nat.{_<_};
 ghost use lib.ListN.{length};
-
-// Where this byte stands next, from a position on; the end where it does not.
-fn find(text: &[u8], from: usize, byte: u8) -> usize
-    requires { ⌜ from ≤ length (now text) ⌝ }
-    ensures { λ r. ⌜ (from ≤ r) × (r ≤ length (now (text .entry))) ⌝ }
-{
-    let mut i = from;
-    while i < text.len() {
-        if text[i] == byte {
-            return i;
-        }
-        i += 1;
-    }
-    i
-}
 
 // A case, whose first | stands at this position.
 fn case(line: &[u8], bar: usize)
     requires { ⌜ bar < length (now line) ⌝ }
 {
     let from = bar + 1;
-    let to = find(line, from, b'|');
+    let to = bytes::scan::find(line, from, line.len(), b'|');
     if to == line.len() {
         return;
     }
@@ -42,7 +27,7 @@ fn case(line: &[u8], bar: usize)
 }
 
 fn line(text: &[u8]) {
-    let bar = find(text, 0, b'|');
+    let bar = bytes::scan::find(text, 0, text.len(), b'|');
     if bar < text.len() {
         case(text, bar);
         return;
@@ -54,7 +39,7 @@ fn line(text: &[u8]) {
 fn lines(text: &[u8]) {
     let mut from = 0;
     while from < text.len() {
-        let to = find(text, from, b'\n');
+        let to = bytes::scan::find(text, from, text.len(), b'\n');
         line(&text[from..to]);
         if to == text.len() {
             return;

@@ -17,44 +17,25 @@ fn orders(n: usize) -> usize {
 }
 
 // Whether this order ends in the same table, with the same commands for each request.
-fn agrees(
-    prepared: &Table,
-    t: &Table,
-    out: &[u8],
-    sizes: &[u16],
-    requests: &[u8],
-    order: usize,
-) -> bool {
-    let mut own = [0u16; 2819];
+fn agrees(prepared: &Table, t: &Table, out: &[u8], requests: &[u8], order: usize) -> bool {
+    let mut own = *prepared;
     let mut own_out = [238u8; 24576];
-    let mut own_sizes = [ask::UNASKED; 6];
-    words::copy(prepared, &mut own);
-    if !ask::in_order(&mut own, &mut own_out, &mut own_sizes, requests, order) {
+    if !ask::in_order(&mut own, &mut own_out, requests, order) {
         return false;
     }
     if !words::same_table(&own, t) {
         return false;
     }
-    if !words::same(&own_sizes, sizes) {
-        return false;
-    }
     check::same(&own_out, out)
 }
 
-fn agreeing(
-    prepared: &Table,
-    t: &Table,
-    out: &[u8],
-    sizes: &[u16],
-    requests: &[u8],
-    end: usize,
-) -> usize {
+fn agreeing(prepared: &Table, t: &Table, out: &[u8], requests: &[u8], end: usize) -> usize {
     let mut agreeing = 0;
     let mut order = 0;
     while order < end {
         let this = order;
         order += 1;
-        if !agrees(prepared, t, out, sizes, requests, this) {
+        if !agrees(prepared, t, out, requests, this) {
             continue;
         }
         agreeing += 1;
@@ -84,11 +65,9 @@ fn is_listed(t: &Table) -> bool {
 
 // The order in which the requests are written is what the others are held to.
 fn compare(prepared: &Table, requests: &[u8]) {
-    let mut t = [0u16; 2819];
+    let mut t = *prepared;
     let mut out = [238u8; 24576];
-    let mut sizes = [ask::UNASKED; 6];
-    words::copy(prepared, &mut t);
-    if !ask::in_order(&mut t, &mut out, &mut sizes, requests, 0) {
+    if !ask::in_order(&mut t, &mut out, requests, 0) {
         io::write_all(1, b"a request is refused\n");
         return;
     }
@@ -97,7 +76,7 @@ fn compare(prepared: &Table, requests: &[u8]) {
         return;
     }
     let end = orders(requests.len() / 5);
-    show(agreeing(prepared, &t, &out, &sizes, requests, end), end);
+    show(agreeing(prepared, &t, &out, requests, end), end);
 }
 
 pub fn all(script: &[u8], requests: &[u8]) {

@@ -1,13 +1,5 @@
-// Words, copied and compared.
+// Words compared.
 use table::Table;
-
-pub fn copy(from: &Table, to: &mut Table) {
-    let mut i = 0;
-    while i < 2819 {
-        to[i] = from[i];
-        i += 1;
-    }
-}
 
 pub fn same(a: &[u16], b: &[u16]) -> bool {
     if a.len() != b.len() {

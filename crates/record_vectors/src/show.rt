@@ -31,15 +31,14 @@ fn hex(byte: u8) {
 
 // Where a record is to be written: so many bytes, and the position.
 pub fn place(room: usize, pos: usize) {
-    text(b" room");
+    text(b"write room");
     number(room);
     text(b" at");
     number(pos);
 }
 
 pub fn refused(number: u16) {
-    text(b" refused");
-    io::write_all(1, b" ");
+    text(b" refused ");
     io::print_decimal(1, number as u64);
 }
 

@@ -1,10 +1,14 @@
 // Writing: each record into rooms about its size, at several positions. The bytes around it are ee.
 use crate::show;
+use record::Conflict;
+use record::Expansion;
 use record::Pair;
-use record::Reading;
 use record::Record;
+use record::Request;
 use record::Speed;
+use record::VirtualConflict;
 use record::VirtualPair;
+use refusal::Answer;
 use slot::Node;
 use slot::Vertex;
 ghost use Prim.Native.Nat.{_<_};
@@ -31,82 +35,76 @@ fn answer_of(i: u8) -> Record {
     }
 }
 
-fn answer(i: u8, room: usize, pos: usize) {
+fn request_of(i: u8) -> Request {
+    match i {
+        8 => Request::Conflict(Conflict {
+            node_1: Node(1),
+            node_2: Node(2),
+            touch_1: Node(3),
+            touch_2: Node(65535),
+            vertex_1: Vertex(16909060),
+            vertex_2: Vertex(4294967295),
+        }),
+        9 => Request::VirtualConflict(VirtualConflict {
+            node: Node(258),
+            touch: Node(772),
+            vertex: Vertex(10),
+            virtual_vertex: Vertex(99),
+        }),
+        10 => Request::Expansion(Expansion { node: Node(128) }),
+        11 => Request::Reset,
+        _ => Request::List,
+    }
+}
+
+// The first eight records are answers, the others requests.
+fn put(out: &mut [u8], pos: usize, i: u8) -> Answer {
+    if i < 8 {
+        return writing::write_answer(out, pos, answer_of(i));
+    }
+    request_writing::write_request(out, pos, request_of(i))
+}
+
+fn record(i: u8, room: usize, pos: usize) {
     let mut bytes = [238u8; 24];
     if room > 24 {
         return;
     }
-    show::text(b"answer");
     show::place(room, pos);
-    show::done(writing::write_answer(&mut bytes[..room], pos, answer_of(i)));
+    show::done(put(&mut bytes[..room], pos, i));
     show::buffer(&bytes);
 }
 
 // A record of size bytes: no room, one byte short, exact, one byte more; then in the middle, one byte too far, at the end and past it.
-fn answer_rooms(i: u8, size: usize)
+fn rooms(i: u8, size: usize)
     requires { ⌜ 0 < size ⌝ }
     requires { ⌜ size < 23 ⌝ }
 {
-    answer(i, 0, 0);
-    answer(i, size - 1, 0);
-    answer(i, size, 0);
-    answer(i, size + 1, 0);
-    answer(i, size + 2, 2);
-    answer(i, size + 2, 3);
-    answer(i, size + 2, size + 2);
-    answer(i, size + 2, 1000);
+    record(i, 0, 0);
+    record(i, size - 1, 0);
+    record(i, size, 0);
+    record(i, size + 1, 0);
+    record(i, size + 2, 2);
+    record(i, size + 2, 3);
+    record(i, size + 2, size + 2);
+    record(i, size + 2, 1000);
 }
 
 pub fn answers() {
-    answer_rooms(0, 8);
-    answer_rooms(1, 8);
-    answer_rooms(2, 8);
-    answer_rooms(3, 6);
-    answer_rooms(4, 6);
-    answer_rooms(5, 6);
-    answer_rooms(6, 16);
-    answer_rooms(7, 14);
-}
-
-// The request of a tape, written.
-fn request(tape: &[u8], room: usize, pos: usize) {
-    let mut bytes = [238u8; 24];
-    if room > 24 {
-        return;
-    }
-    let Reading::Request(request, _) = reading::read_record(tape) else {
-        return;
-    };
-    show::text(b"request");
-    show::place(room, pos);
-    show::done(request_writing::write_request(&mut bytes[..room], pos, request));
-    show::buffer(&bytes);
-}
-
-fn request_rooms(tape: &[u8], size: usize)
-    requires { ⌜ 0 < size ⌝ }
-    requires { ⌜ size < 23 ⌝ }
-{
-    request(tape, 0, 0);
-    request(tape, size - 1, 0);
-    request(tape, size, 0);
-    request(tape, size + 1, 0);
-    request(tape, size + 2, 2);
-    request(tape, size + 2, 3);
-    request(tape, size + 2, size + 2);
-    request(tape, size + 2, 1000);
+    rooms(0, 8);
+    rooms(1, 8);
+    rooms(2, 8);
+    rooms(3, 6);
+    rooms(4, 6);
+    rooms(5, 6);
+    rooms(6, 16);
+    rooms(7, 14);
 }
 
 pub fn requests() {
-    request_rooms(
-        b"\x12\x00\x01\x00\x01\x00\x02\x00\x03\x00\xff\xff\x04\x03\x02\x01\xff\xff\xff\xff",
-        20,
-    );
-    request_rooms(
-        b"\x0e\x00\x02\x00\x02\x01\x04\x03\x0a\x00\x00\x00\x63\x00\x00\x00",
-        16,
-    );
-    request_rooms(b"\x04\x00\x03\x00\x80\x00", 6);
-    request_rooms(b"\x02\x00\x04\x00", 4);
-    request_rooms(b"\x02\x00\x05\x00", 4);
+    rooms(8, 20);
+    rooms(9, 16);
+    rooms(10, 6);
+    rooms(11, 4);
+    rooms(12, 4);
 }

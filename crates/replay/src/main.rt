@@ -49,16 +49,12 @@ fn is_same(out: &[u8], n: usize, answers: &[u8]) -> bool {
     check::same(&out[..n], answers)
 }
 
-// One tape on a fresh table: what was handled, and whether the answers are the original's and the tape is used up.
-fn replay(begin: u16, tape: &[u8], answers: &[u8]) {
+// One tape on a fresh table. The bytes of it that are left come back.
+fn run(begin: u16, tape: &[u8], out: &mut [u8], handled: &mut u32, written: &mut usize) -> usize {
     let mut table = [0u16; 2819];
-    primal::make(&mut table, begin);
-    let mut space = io::large_buffer();
-    let out: &mut [u8] = &mut space;
     let mut stop: u16 = 0;
     let mut refusal: u16 = 0;
-    let mut handled: u32 = 0;
-    let mut written: usize = 0;
+    primal::make(&mut table, begin);
     let rest = primal::run(
         &mut table,
         tape,
@@ -66,18 +62,32 @@ fn replay(begin: u16, tape: &[u8], answers: &[u8]) {
         65536,
         &mut stop,
         &mut refusal,
-        &mut handled,
-        &mut written,
+        handled,
+        written,
     );
-    let left = rest.len();
+    rest.len()
+}
+
+fn report(handled: u32, written: usize, is_same: bool) {
     say_number(handled as u64);
     say(b" requests, ");
     say_number(written as u64);
-    if left == 0 && is_same(out, written, answers) {
+    if is_same {
         say(b" bytes: as the original\n");
     } else {
         say(b" bytes: NOT as the original\n");
     }
+}
+
+// What was handled, and whether the answers are the original's and the tape is used up.
+fn replay(begin: u16, tape: &[u8], answers: &[u8]) {
+    let mut space = io::large_buffer();
+    let out: &mut [u8] = &mut space;
+    let mut handled: u32 = 0;
+    let mut written: usize = 0;
+    let left = run(begin, tape, out, &mut handled, &mut written);
+    let is_same = left == 0 && is_same(out, written, answers);
+    report(handled, written, is_same);
 }
 
 fn replay_files(begin: u16, tape_path: &[u8], answers_path: &[u8]) {

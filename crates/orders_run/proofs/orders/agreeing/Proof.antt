@@ -4,10 +4,10 @@ use Rattle.orders_run.proofs.orders.agreeing.Statement.{statement}
 use Rattle.orders_run.proofs.orders.agreeing.Tie as tie
 
 abbrev Inv-loop : tie.InvT-loop
-Inv-loop prepared t out sizes requests end agreeing₀ order₀ agreeing order = (order ≤ end) × (agreeing ≤ order)
+Inv-loop prepared t out requests end agreeing₀ order₀ agreeing order = (order ≤ end) × (agreeing ≤ order)
 
 abbrev μ-loop : tie.MeasureT-loop
-μ-loop prepared t out sizes requests end agreeing₀ order₀ agreeing order = end - order
+μ-loop prepared t out requests end agreeing₀ order₀ agreeing order = end - order
 
 pub agreeing-spec : {M : Type 1} → statement M
 agreeing-spec =

@@ -9,10 +9,13 @@ narrow-at-spec =
     tie.close
     (tie.spec
     (λ c. search needs)
-    (λ c. omega (arith, c .shared-slice-known .given (c .before .args .at)))
     (λ c. search needs)
     (λ c. search needs)
-    (λ c. omega (arith, c .shared-slice-known2 .given (c .before .before .args .at + 1)))
-    (λ c. omega (arith, c .shared-slice-known2 .given (c .before .before .args .at + 1)))
-    (λ c. omega (arith, c .before .shared-slice-known .given (c .before .before .args .at), c .shared-slice-known2 .given (c .before .before .args .at + 1)))
+    (λ c. search needs)
+    (λ c. omega (arith, c .shared-slice-known .given (c .before .before .before .args .at)))
+    (λ c. search needs)
+    (λ c. search needs)
+    (λ c. omega (arith, c .shared-slice-known2 .given (c .before .before .before .before .args .at + 1)))
+    (λ c. omega (arith, c .shared-slice-known2 .given (c .before .before .before .before .args .at + 1)))
+    (λ c. omega (arith, c .before .shared-slice-known .given (c .before .before .before .before .args .at), c .shared-slice-known2 .given (c .before .before .before .before .args .at + 1)))
     (λ c. search needs))

@@ -1,7 +1,7 @@
-use mathlib.Core.Path.{_≡_, refl, _∙_}
-use lib.ListN.{length}
+use mathlib.Core.Path.{_≡_}
+use native.Mathlib.Omega.{arith}
+use lib.ListN.{length, length-take, length-drop}
 use borrow.Author.Needs.{needs}
-use Rattle.text_writing.proofs.Laws.{inside, fewer}
 use Rattle.text_writing.proofs.answer.write_answers.Statement.{statement}
 use Rattle.text_writing.proofs.answer.write_answers.Tie as tie
 
@@ -17,15 +17,13 @@ write-answers-spec =
     (tie.spec
     Inv-loop
     μ-loop
-    (λ c. refl)
-    (λ c κs. search needs)
     (λ c. search needs)
     (λ c κs. search needs)
-    (λ c. inside _ _ _ _ (c .before .before .before .before .before .before .before .answer-at .ensures) (c .before .before .before .before .before .answer .given .1) .1)
-    (λ c. inside _ _ _ _ (c .before .before .before .before .before .before .before .answer-at .ensures) (c .before .before .before .before .before .answer .given .1) .1)
-    (λ c. search needs)
-    (λ c. fewer _ _ _ (c .before .before .before .before .before .before .before .before .before .loop .rest .now) (c .before .before .before .before .before .before .before .before .answer-at .ensures) (c .before .before .before .before .before .before .answer .given .1))
-    (λ c. c .before .before .before .write-answer .kept .0 ∙ c .before .before .before .before .before .before .before .before .before .loop .inv)
     (λ c. search needs)
     (λ c. search needs)
+    (λ c κs. search needs)
+    (λ c. search needs)
+    (λ c. search needs)
+    (λ c. search needs)
+    (λ c. simp (length-take, length-drop) (omega arith))
     (λ c. search needs))

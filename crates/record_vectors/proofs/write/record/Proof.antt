@@ -1,20 +1,17 @@
 use mathlib.Core.Path.{sym}
 use lib.Seq.{length-take-le}
 use borrow.Author.Needs.{needs}
-use Rattle.record_vectors.proofs.write.answer.Statement.{statement}
-use Rattle.record_vectors.proofs.write.answer.Tie as tie
+use Rattle.record_vectors.proofs.write.record.Statement.{statement}
+use Rattle.record_vectors.proofs.write.record.Tie as tie
 
-pub answer-spec : {M : Type 1} → statement M
-answer-spec =
+pub record-spec : {M : Type 1} → statement M
+record-spec =
     tie.close
     (tie.spec
     (λ c. search needs)
-    (λ c. search needs)
-    (λ c κs. search needs)
     (λ c κs. search needs)
     (λ c. search needs)
     (λ c. sym (length-take-le _ _ (search needs)))
-    (λ c κs. search needs)
     (λ c κs. search needs)
     (λ c κs. search needs)
     (λ c κs. search needs)

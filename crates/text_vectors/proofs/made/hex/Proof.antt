@@ -1,22 +1,23 @@
 use Prim.Native.Nat.{_≤_, _-_}
+use lib.ListN.{length}
 use borrow.Author.Needs.{needs}
-use Rattle.text_vectors.proofs.number.edges.Statement.{statement}
-use Rattle.text_vectors.proofs.number.edges.Tie as tie
+use Rattle.text_vectors.proofs.made.hex.Statement.{statement}
+use Rattle.text_vectors.proofs.made.hex.Tie as tie
 
 abbrev Inv-loop : tie.InvT-loop
-Inv-loop i₀ i = i ≤ 24
+Inv-loop bytes i₀ i = i ≤ length bytes
 
 abbrev μ-loop : tie.MeasureT-loop
-μ-loop i₀ i = 24 - i
+μ-loop bytes i₀ i = length bytes - i
 
-pub edges-spec : {M : Type 1} → statement M
-edges-spec =
+pub hex-spec : {M : Type 1} → statement M
+hex-spec =
     tie.close
     (tie.spec
     Inv-loop
     μ-loop
     (λ c. search needs)
-    (λ c κs. search needs)
+    (λ c. search needs)
     (λ c κs. search needs)
     (λ c. search needs)
     (λ c. search needs)
