@@ -1,7 +1,7 @@
-/* Writes tapes and the original's answers to them, for the crate `replay`.
+/* Writes tapes and the original's answers to them, for the crate `tapes_run`.
      sample ORIGINAL DIR
    Each tape holds requests that 01 accepts, of one plan and one begin, with resets between shots. DIR gets NAME.tape and
-   NAME.answers; the words for the crate's `args` go to standard output. */
+   NAME.tape.answers; the cases for the crate's `stdin` go to standard output. */
 #include <stdio.h>
 #include <stdlib.h>
 #include <string.h>
@@ -61,8 +61,8 @@ int main(int argc, char **argv) {
         snprintf(begin, sizeof begin, "%u", shot.begin);
         if (run_program(argv[1], begin, &tape, &answers)) return fprintf(stderr, "the original refuses %s\n", name), 1;
         save(argv[2], name, "tape", &tape);
-        save(argv[2], name, "answers", &answers);
-        printf("%03u\n%s.tape\n%s.answers\n", shot.begin, name, name);
+        save(argv[2], name, "tape.answers", &answers);
+        printf("%s.tape: |%03u %s.tape.answers|\n", name, shot.begin, name);
     }
     return 0;
 }

@@ -2,7 +2,6 @@
 use mathlib.Core.Path.{_≡_, refl, sym, ap, _∙_}
 use mathlib.Core.Bool.{Bool, true, false, _||_}
 use Prim.Native.Nat.{ℕ, zero, suc, _-_}
-use native.Mathlib.Omega.{arith}
 use lib.Dec.{eqb}
 use borrow.Author.Tests.{eq-eqb, ne-eqb}
 use Rattle.slot.specs.Number.{none}
@@ -10,9 +9,7 @@ use Rattle.table.specs.Table.{Table, at}
 use Rattle.rules.specs.Act.{choose, alter, same}
 use Rattle.rules.specs.Slots.{withParent, withFirstChild, withSibling, up, next}
 use Rattle.rules.specs.Blossom.{relinked, relisted, replaceChild, adopted, moved, movedUpTo, lastBelow, gathered}
-
-pub fewer : (k : ℕ) → suc k - 1 ≡ k
-fewer k = omega arith
+use Rattle.ringing.proofs.Rings.{fewer}
 
 -- ---- the place in a child list
 

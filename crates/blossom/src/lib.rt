@@ -1,6 +1,5 @@
 // Making a blossom. Each walk is bounded, so it ends on any table.
 pub mod list;
-pub mod ring;
 pub mod transfer;
 
 use record::Record;
@@ -58,6 +57,6 @@ pub fn create_blossom(
     counts::set_count_blossoms(t, given);
     place_blossom(t, b, m);
     transfer::transfer_two_paths(t, b, m, x, y);
-    ring::connect_ring(t, b, m, x, y, link);
+    ringing::connect_ring(t, b, m, x, y, link);
     writing::emit(out, pos, Record::Create(b))
 }

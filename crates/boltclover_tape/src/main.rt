@@ -3,7 +3,15 @@
 use libc::STDERR_FILENO;
 use libc::STDIN_FILENO;
 use libc::STDOUT_FILENO;
-use text_reading::Outcome;
+use text::Outcome;
+
+const LINE: usize = 0;
+
+const NOT_A_REQUEST: usize = 1;
+
+const NO_ROOM: usize = 2;
+
+const TOO_LONG: usize = 3;
 
 fn write_first(bytes: &[u8], n: usize) {
     if n <= bytes.len() {
@@ -11,19 +19,27 @@ fn write_first(bytes: &[u8], n: usize) {
     }
 }
 
-fn complain(line: usize, words: &[u8]) {
-    io::write_all(STDERR_FILENO, b"line ");
+fn say(message: usize) {
+    let messages = b"line |: not a request
+|: no room for the record
+|longer than 65536 bytes
+";
+    io::write_all(STDERR_FILENO, text::nth(messages, b'|', message));
+}
+
+fn complain(line: usize, reason: usize) {
+    say(LINE);
     io::print_decimal(STDERR_FILENO, line as u64);
-    io::write_all(STDERR_FILENO, words);
+    say(reason);
 }
 
 fn write_tape(text: &[u8]) {
     let mut space = io::large_buffer();
     let tape: &mut [u8] = &mut space;
-    match text_reading::read_text(text, tape) {
+    match text::read_text(text, tape) {
         Outcome::Tape(n) => write_first(tape, n),
-        Outcome::NotARequest(line) => complain(line, b": not a request\n"),
-        Outcome::NoRoom(line) => complain(line, b": no room for the record\n"),
+        Outcome::NotARequest(line) => complain(line, NOT_A_REQUEST),
+        Outcome::NoRoom(line) => complain(line, NO_ROOM),
     }
 }
 
@@ -38,7 +54,7 @@ fn main() {
     let n = io::read_full(STDIN_FILENO, &mut text);
     if n == 65536 {
         if is_longer() {
-            io::write_all(STDERR_FILENO, b"longer than 65536 bytes\n");
+            say(TOO_LONG);
             return;
         }
     }

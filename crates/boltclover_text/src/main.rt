@@ -3,7 +3,7 @@
 use libc::STDIN_FILENO;
 use libc::STDOUT_FILENO;
 use record::Reading;
-use record::Request;
+use record::Record;
 use refusal::Answer;
 use table::Table;
 
@@ -13,25 +13,33 @@ fn print(text: &[u8], n: usize) {
     }
 }
 
-// The answers in the first n bytes, in words.
-fn write_answers(text: &mut [u8], pos: usize, out: &[u8], n: usize) -> usize {
-    if n <= out.len() {
-        return text_writing::write_answers(text, pos, &out[0..n]);
+// The records in the first n bytes, in words. No request's answers fill more than 512 lines, so there is room.
+fn print_lines(records: &[u8], n: usize) {
+    let mut space = io::large_buffer();
+    let lines: &mut [u8] = &mut space;
+    if records.len() < n {
+        return;
     }
-    pos
+    let end = text::write_records(lines, 0, &records[0..n]);
+    print(lines, end);
 }
 
-// A request, which stands first on the tape, and what it answers. No request's answers fill more than 512 lines, so there is room.
-fn print_record(t: &mut Table, tape: &[u8], request: Request) {
+fn print_refusal(number: u16) {
+    let mut space = [0u8; 6];
+    let out: &mut [u8] = &mut space;
+    let n = writing::emit(out, 0, Record::End(number));
+    print_lines(out, n);
+}
+
+// The record that stands first on the tape, in so many bytes, and what it answers.
+fn print_record(t: &mut Table, tape: &[u8], size: usize) {
     let mut space = io::large_buffer();
     let out: &mut [u8] = &mut space;
-    let mut lines = io::large_buffer();
-    let text: &mut [u8] = &mut lines;
     let mut stop: u16 = 0;
     let mut refusal: u16 = 0;
     let mut handled: u32 = 0;
     let mut written: usize = 0;
-    let pos = text_writing::write_request(text, 0, request);
+    print_lines(tape, size);
     primal::run(
         t,
         tape,
@@ -42,27 +50,19 @@ fn print_record(t: &mut Table, tape: &[u8], request: Request) {
         &mut handled,
         &mut written,
     );
-    let end = write_answers(text, pos, out, written);
-    print(text, end);
-}
-
-fn print_bad_record() {
-    let mut line = io::buffer();
-    let text: &mut [u8] = &mut line;
-    let end = text_writing::answer::write_end(text, 0, 12);
-    print(text, end);
+    print_lines(out, written);
 }
 
 fn print_records(t: &mut Table, tape: &[u8]) {
     let mut rest = tape;
     while 0 < rest.len() {
         match primal::read_record(rest) {
-            Reading::Request(request, size) => {
-                print_record(t, rest, request);
+            Reading::Request(_, size) => {
+                print_record(t, rest, size);
                 rest = &rest[size..];
             }
             Reading::Refused(_) => {
-                print_bad_record();
+                print_refusal(12);
                 return;
             }
         }
@@ -72,18 +72,11 @@ fn print_records(t: &mut Table, tape: &[u8]) {
 fn print_listing(t: &Table) {
     let mut space = io::large_buffer();
     let out: &mut [u8] = &mut space;
-    let mut lines = io::large_buffer();
-    let text: &mut [u8] = &mut lines;
-    let pos = decimals::write_bytes(text, 0, b"listing\n");
-    let end = match primal::list(t, out) {
-        Answer::Done(written) => write_answers(text, pos, out, written),
-        Answer::Refused(refusal) => text_writing::answer::write_end(
-            text,
-            pos,
-            refusal::number(refusal),
-        ),
-    };
-    print(text, end);
+    io::write_all(STDOUT_FILENO, b"listing\n");
+    match primal::list(t, out) {
+        Answer::Done(written) => print_lines(out, written),
+        Answer::Refused(refusal) => print_refusal(refusal::number(refusal)),
+    }
 }
 
 fn main() {

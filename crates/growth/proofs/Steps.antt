@@ -47,6 +47,17 @@ module _ (t : Table) (n : ℕ) where
       let u′ : d ≡ t .defects = u ∙ ap (λ (z : Table). z .defects) r in
       x ∙ rw (lt-ltb n (t .begin) h′, p, v, u′, r, q, add-one)
 
+-- parent, sibling and link are what stood in the slot
+pub root-step :
+    (t u : Table) (n parent child sibling : ℕ) (l : Link)
+    → parent ≡ at t n .parent
+    → sibling ≡ at t n .sibling
+    → l ≡ at t n .link
+    → u ≡ alter n (shaped S.Grow parent child sibling l) t
+    → u ≡ alter n (rootAbove child) t
+unfolding alter
+root-step t u n parent child sibling l e f g h = h ∙ rw (e, f, g)
+
 -- child and link are what stood in the slot
 pub leaf-step :
     (t u : Table) (n parent child : ℕ) (l : Link)

@@ -3,7 +3,6 @@ use record::Record;
 use record::Speed;
 use slot::Link;
 use slot::Node;
-use slot::Slot;
 use slot::State;
 use table::Table;
 ghost use mathlib.Core.Path.{_≡_};
@@ -39,23 +38,10 @@ pub fn load(t: &mut Table, n: Node)
 fn set_root(t: &mut Table, n: Node, first_child: Node)
     ensures { λ _. ⌜ tableOf (now (t .exit)) ≡ alter (n .0) (rootAbove («first_child» .0)) (tableOf (now (t .entry))) ⌝ }
 {
-    let s = table::get(t, n);
-    let parent = s.parent;
-    let sibling = s.sibling;
-    let ring = s.ring;
-    let link = s.link;
-    table::store(
-        t,
-        n,
-        Slot {
-            state: State::Grow,
-            parent,
-            first_child,
-            sibling,
-            ring,
-            link,
-        },
-    );
+    let parent = nodes::field::parent(t, n);
+    let sibling = nodes::field::sibling(t, n);
+    let link = nodes::field::link(t, n);
+    altering::shape(t, n, State::Grow, parent, first_child, sibling, link);
 }
 
 fn set_minus(t: &mut Table, n: Node, parent: Node, first_child: Node, sibling: Node, link: Link)

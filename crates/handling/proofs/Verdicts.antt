@@ -10,7 +10,7 @@ use Rattle.record.specs.declared.request.Request.{Request}
 use Rattle.record.specs.declared.request.Request.the-variants as Q
 use Rattle.rules.specs.Sound.{sound}
 use Rattle.rules.specs.Calls.{verdict}
-use Rattle.handling.specs.Handled.{laterVerdict}
+use Rattle.outcome.specs.Handled.{laterVerdict}
 
 module _ (t : Table) (room : ℕ) where
   first-is-sound : (q : Request) → verdict q t room ≡ pick (not (sound t)) (W.Refused NotSound) (laterVerdict q t room)

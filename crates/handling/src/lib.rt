@@ -1,56 +1,17 @@
-// Each request on a table that is known to be sound: the refusals after the first, in 01's order, and then the rule; from a
-// position of the lent bytes on. What is promised holds on any table, but it is 01's answer on a sound one only.
-use record::Conflict;
+// Expansion, reset and listing on a table that is known to be sound: the refusals after the first, in 01's order, and then the
+// rule; from a position of the lent bytes on. What is promised holds on any table, but it is 01's answer on a sound one only.
 use record::Expansion;
-use record::VirtualConflict;
 use refusal::Answer;
 use refusal::Refusal;
 use refusal::Verdict;
 use table::Table;
-ghost use mathlib.Core.Path.{_≡_};
-ghost use Prim.Native.Nat.{_-_};
-ghost use lib.ListN.{length};
 ghost use Rattle.record.specs.declared.request.Request.the-variants as Q;
-ghost use Rattle.handling.specs.Handled.{Handled};
-
-// The bytes from a position on.
-pub fn room(out: &[u8], pos: usize) -> usize
-    ensures { λ r. ⌜ r ≡ length (now (out .entry)) - pos ⌝ }
-{
-    if pos < out.len() {
-        return out.len() - pos;
-    }
-    0
-}
-
-pub fn conflict(t: &mut Table, out: &mut [u8], pos: usize, c: Conflict) -> Answer
-    ensures { λ r. ⌜ Handled (Q.Conflict c) pos (now (t .entry)) (now (out .entry)) r (now (t .exit)) (now (out .exit)) ⌝ }
-{
-    if room(out, pos) < 4096 {
-        return Answer::Refused(Refusal::NoCommandRoom);
-    }
-    match judging::judge_conflict(t, c) {
-        Verdict::Accepted => Answer::Done(resolving::resolve_conflict(t, out, pos, c)),
-        Verdict::Refused(refusal) => Answer::Refused(refusal),
-    }
-}
-
-pub fn virtual_conflict(t: &mut Table, out: &mut [u8], pos: usize, c: VirtualConflict) -> Answer
-    ensures { λ r. ⌜ Handled (Q.VirtualConflict c) pos (now (t .entry)) (now (out .entry)) r (now (t .exit)) (now (out .exit)) ⌝ }
-{
-    if room(out, pos) < 4096 {
-        return Answer::Refused(Refusal::NoCommandRoom);
-    }
-    match judging::judge_virtual_conflict(t, c) {
-        Verdict::Accepted => Answer::Done(resolving::resolve_virtual_conflict(t, out, pos, c)),
-        Verdict::Refused(refusal) => Answer::Refused(refusal),
-    }
-}
+ghost use Rattle.outcome.specs.Handled.{Handled};
 
 pub fn expand(t: &mut Table, out: &mut [u8], pos: usize, e: Expansion) -> Answer
     ensures { λ r. ⌜ Handled (Q.Expansion e) pos (now (t .entry)) (now (out .entry)) r (now (t .exit)) (now (out .exit)) ⌝ }
 {
-    if room(out, pos) < 4096 {
+    if outcome::room(out, pos) < 4096 {
         return Answer::Refused(Refusal::NoCommandRoom);
     }
     let node = e.node;
@@ -72,7 +33,7 @@ pub fn list(t: &Table, out: &mut [u8], pos: usize) -> Answer
     ensures { λ r. ⌜ Handled Q.List pos (now (t .entry)) (now (out .entry)) r (now (t .entry)) (now (out .exit)) ⌝ }
 {
     let needed = 16 * listing::present_defects(t);
-    if room(out, pos) < needed {
+    if outcome::room(out, pos) < needed {
         return Answer::Refused(Refusal::NoListingRoom);
     }
     Answer::Done(listing::list_all(t, out, pos))

@@ -21,6 +21,20 @@ use Rattle.rules.specs.Trees.{seen, sameTree}
 use Rattle.rules.specs.Blossom.{lacksBlossomSlot}
 use Rattle.rules.specs.Refusals.{firstOf, _when_, Check, isNotOuter, isOutside, isGrowing, isNotExpandable, makesBlossom, conflictNamesNoNode, conflictNotOuter, conflictTouchesOutside, conflictNotGrowing, conflictLacksSlot, conflictNodeChecks, virtualNamesNoNode, virtualNodeChecks, expansionNodeChecks}
 
+-- ---- tests put together by `either`, in the code's order
+
+pub either-of-two : (a b r x y : Bool) → a ≡ x → b ≡ y → r ≡ (a || b) → r ≡ (x || y)
+either-of-two a b r x y e f g = g ∙ rw (e, f)
+
+pub either-of-three : (a b c p r x y z : Bool) → a ≡ x → b ≡ y → p ≡ (a || b) → c ≡ z → r ≡ (p || c) → r ≡ (x || y || z)
+either-of-three a b c p r x y z e f g h i = i ∙ rw (g, e, f, h)
+
+pub either-of-four : (a b c d p q r w x y z : Bool) → a ≡ w → b ≡ x → p ≡ (a || b) → c ≡ y → q ≡ (p || c) → d ≡ z → r ≡ (q || d) → r ≡ (w || x || y || z)
+either-of-four a b c d p q r w x y z e f g h i j k = k ∙ rw (i, g, e, f, h, j)
+
+pub minus-or-none-growing : (a b c d p q r w x y z : Bool) → a ≡ w → b ≡ x → p ≡ (a || b) → c ≡ y → d ≡ z → q ≡ (c || d) → r ≡ (p || not q) → r ≡ (w || x || not (y || z))
+minus-or-none-growing a b c d p q r w x y z e f g h i j k = k ∙ rw (g, e, f, j, h, i)
+
 -- ---- trees
 
 pub in-tree-parent : (s u : Slot) → s ≡ u → (s .parent ≡ none → ⊥) → true ≡ inTree u

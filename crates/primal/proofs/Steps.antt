@@ -8,7 +8,7 @@ use Rattle.refusal.specs.declared.Verdict.{Verdict}
 use Rattle.refusal.specs.declared.Verdict.the-variants as W
 use Rattle.refusal.specs.declared.Refusal.the-variants.{NotSound}
 use Rattle.rules.specs.Act.{Act}
-use Rattle.handling.specs.Handled.{Outcome}
+use Rattle.outcome.specs.Handled.{Outcome}
 
 module _ (act : Act) (pos : ℕ) (words bytes : List ℕ) where
   pub refused-by : (v : Verdict) → v ≡ W.Refused NotSound → Outcome v act pos words bytes (A.Refused NotSound) words bytes

@@ -52,7 +52,7 @@ pub fn conflict(t: &mut Table, out: &mut [u8], request: Conflict) -> Answer
     if !sound::is_sound(t) {
         return Answer::Refused(Refusal::NotSound);
     }
-    handling::conflict(t, out, 0, request)
+    conflicts::conflict(t, out, 0, request)
 }
 
 pub fn virtual_conflict(t: &mut Table, out: &mut [u8], request: VirtualConflict) -> Answer
@@ -61,7 +61,7 @@ pub fn virtual_conflict(t: &mut Table, out: &mut [u8], request: VirtualConflict)
     if !sound::is_sound(t) {
         return Answer::Refused(Refusal::NotSound);
     }
-    handling::virtual_conflict(t, out, 0, request)
+    conflicts::virtual_conflict(t, out, 0, request)
 }
 
 pub fn expand(t: &mut Table, out: &mut [u8], request: Expansion) -> Answer

@@ -1,4 +1,3 @@
--- What the proofs of several calls use, and theorems about the promises.
+-- What the proofs of several calls use, and what a run leaves unread.
 mod Telling
-pub mod Unique
 pub mod Rest

@@ -19,10 +19,11 @@ use Rattle.record.specs.Writing.{writeAll}
 use Rattle.rules.specs.Act.{Act, World, worldOf, run, change}
 use Rattle.rules.specs.Calls.{actOf, verdict}
 use Rattle.rules.specs.Run.{Ran, unsound, ran, runTape}
-use Rattle.handling.specs.Handled.{Outcome}
+use Rattle.outcome.specs.Handled.{Outcome}
 use Rattle.running.specs.Tape.{HandsOut, Tape}
 use Rattle.primal.specs.Call.{Call, Reset}
-use Rattle.primal_c.specs.Numbered.{Told, Numbered, Called, WasReset, WasMade, RanTape, Run}
+use Rattle.numbered.specs.Told.{Told}
+use Rattle.primal_c.specs.Numbered.{Numbered, Called, WasReset, WasMade, RanTape, Run}
 
 told-by :
     (v : Verdict) (act : Act) (words bytes : List ℕ) (a : Answer) (words′ bytes′ : List ℕ) (number written : ℕ)
@@ -39,6 +40,16 @@ pub told :
     → Told a number written
     → Called q words bytes number written words′ bytes′
 told q words bytes = told-by (verdict q (tableOf words) (length bytes)) (actOf q) words bytes
+
+-- .. where the request was made from plain numbers
+pub told-as :
+    {A : Type 0} (f : A → Request) (r r′ : A)
+    → r ≡ r′
+    → (words bytes : List ℕ) (a : Answer) (words′ bytes′ : List ℕ) (number written : ℕ)
+    → Call (f r) words bytes a words′ bytes′
+    → Told a number written
+    → Called (f r′) words bytes number written words′ bytes′
+told-as f r r′ e words bytes a words′ bytes′ number written p q = rw e at (told (f r) words bytes a words′ bytes′ number written p q)
 
 -- reset writes nothing: the position stays at 0
 reset-written :

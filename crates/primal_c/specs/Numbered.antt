@@ -7,20 +7,15 @@ use lib.ListN.{length}
 use Rattle.lists.specs.Choice.{pick}
 use Rattle.table.specs.Words.{tableOf}
 use Rattle.counts.specs.Making.{beginFits, fresh}
-use Rattle.refusal.specs.declared.Answer.{Answer}
 use Rattle.refusal.specs.declared.Verdict.{Verdict}
 use Rattle.refusal.specs.declared.Verdict.the-variants as W
 use Rattle.refusal.specs.declared.Refusal.the-variants.{BadBegin}
-use Rattle.refusal.specs.Refusal.{numberOf, answerNumber, answerWritten}
+use Rattle.refusal.specs.Refusal.{numberOf}
 use Rattle.record.specs.declared.request.Request.{Request}
 use Rattle.record.specs.declared.request.Request.the-variants as Q
 use Rattle.rules.specs.Act.{Act, worldOf, run}
 use Rattle.rules.specs.Calls.{actOf, verdict}
 use Rattle.rules.specs.Run.{Ran, unsound, ran, stopNumber, runTape}
-
--- the number and the bytes written that an answer stands for
-abbrev pub Told : Answer → ℕ → ℕ → Type 0
-Told a number written = (number ≡ answerNumber a) × (written ≡ answerWritten a)
 
 -- refused: the number, nothing written, words and bytes as they were; accepted: 0, the bytes written, and the request's rule done
 abbrev pub Numbered : Verdict → Act → List ℕ → List ℕ → ℕ → ℕ → List ℕ → List ℕ → Type 0

@@ -1,11 +1,5 @@
 // The public calls for C and Rust, as `include/boltclover.h` declares them. Each passes its arguments to the call of the same
 // name in `primal` and tells the answer in numbers. A slice is a pointer and a length.
-use record::Conflict;
-use record::Expansion;
-use record::VirtualConflict;
-use refusal::Answer;
-use slot::Node;
-use slot::Vertex;
 use table::Table;
 ghost use mathlib.Core.Path.{_≡_};
 ghost use mathlib.Core.List.{[], _∷_};
@@ -13,23 +7,7 @@ ghost use Rattle.table.specs.Words.{tableOf};
 ghost use Rattle.record.specs.Records.{conflictFrom, virtualFrom, expansionFrom};
 ghost use Rattle.record.specs.declared.request.Request.the-variants as Q;
 ghost use Rattle.rules.specs.Sound.{sound};
-ghost use Rattle.primal_c.specs.Numbered.{Told, Called, WasReset, WasMade, oneIf, Run};
-
-// An answer in numbers: 0 and the bytes written, or the refusal's number and no bytes.
-fn tell(answer: Answer, written: &mut usize) -> u16
-    ensures { λ r. ⌜ Told answer r (now (written .exit)) ⌝ }
-{
-    match answer {
-        Answer::Done(bytes) => {
-            *written = bytes;
-            0
-        }
-        Answer::Refused(refusal) => {
-            *written = 0;
-            refusal::number(refusal)
-        }
-    }
-}
+ghost use Rattle.primal_c.specs.Numbered.{Called, WasReset, WasMade, oneIf, Run};
 
 #[no_mangle]
 pub extern "C" fn boltclover_make(table: &mut Table, begin: u16) -> u16
@@ -68,16 +46,9 @@ pub extern "C" fn boltclover_conflict(
 ) -> u16
     ensures { λ r. ⌜ Called (Q.Conflict (conflictFrom (node_1 ∷ node_2 ∷ touch_1 ∷ touch_2 ∷ vertex_1 ∷ vertex_2 ∷ []))) (now (table .entry)) (now (out .entry)) r (now (written .exit)) (now (table .exit)) (now (out .exit)) ⌝ }
 {
-    let request = Conflict {
-        node_1: Node(node_1),
-        node_2: Node(node_2),
-        touch_1: Node(touch_1),
-        touch_2: Node(touch_2),
-        vertex_1: Vertex(vertex_1),
-        vertex_2: Vertex(vertex_2),
-    };
+    let request = numbered::conflict(node_1, node_2, touch_1, touch_2, vertex_1, vertex_2);
     let answer = primal::conflict(table, out, request);
-    tell(answer, written)
+    numbered::tell(answer, written)
 }
 
 #[no_mangle]
@@ -92,14 +63,9 @@ pub extern "C" fn boltclover_virtual_conflict(
 ) -> u16
     ensures { λ r. ⌜ Called (Q.VirtualConflict (virtualFrom (node ∷ touch ∷ vertex ∷ «virtual_vertex» ∷ []))) (now (table .entry)) (now (out .entry)) r (now (written .exit)) (now (table .exit)) (now (out .exit)) ⌝ }
 {
-    let request = VirtualConflict {
-        node: Node(node),
-        touch: Node(touch),
-        vertex: Vertex(vertex),
-        virtual_vertex: Vertex(virtual_vertex),
-    };
+    let request = numbered::virtual_conflict(node, touch, vertex, virtual_vertex);
     let answer = primal::virtual_conflict(table, out, request);
-    tell(answer, written)
+    numbered::tell(answer, written)
 }
 
 #[no_mangle]
@@ -111,8 +77,9 @@ pub extern "C" fn boltclover_expand(
 ) -> u16
     ensures { λ r. ⌜ Called (Q.Expansion (expansionFrom (node ∷ []))) (now (table .entry)) (now (out .entry)) r (now (written .exit)) (now (table .exit)) (now (out .exit)) ⌝ }
 {
-    let answer = primal::expand(table, out, Expansion { node: Node(node) });
-    tell(answer, written)
+    let request = numbered::expansion(node);
+    let answer = primal::expand(table, out, request);
+    numbered::tell(answer, written)
 }
 
 #[no_mangle]
@@ -120,7 +87,7 @@ pub extern "C" fn boltclover_list(table: &Table, out: &mut [u8], written: &mut u
     ensures { λ r. ⌜ Called Q.List (now (table .entry)) (now (out .entry)) r (now (written .exit)) (now (table .entry)) (now (out .exit)) ⌝ }
 {
     let answer = primal::list(table, out);
-    tell(answer, written)
+    numbered::tell(answer, written)
 }
 
 #[no_mangle]

@@ -20,8 +20,8 @@ use Rattle.record.specs.Writing.{outOf, writeAll}
 use Rattle.rules.specs.Act.{World, worldOf, run}
 use Rattle.rules.specs.Sound.{sound}
 use Rattle.rules.specs.Calls.{actOf, verdict, answered}
-use Rattle.rules.proofs.Kept.{answered-keeps-sound}
-use Rattle.handling.specs.Handled.{Outcome}
+use Rattle.kept.proofs.Kept.{answered-keeps-sound}
+use Rattle.outcome.specs.Handled.{Outcome}
 use Rattle.handling.proofs.Verdicts.{unsound-verdict}
 use Rattle.primal.specs.Call.{Call}
 

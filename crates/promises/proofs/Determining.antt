@@ -25,10 +25,10 @@ use Rattle.rules.specs.Act.{Act, World, worldOf, run}
 use Rattle.rules.specs.Sound.{sound}
 use Rattle.rules.specs.Calls.{actOf, verdict}
 use Rattle.rules.specs.Run.{Ran, unsound, ran, Ended, began, runFrom, runTape}
-use Rattle.rules.proofs.Resetting.{fresh-at}
-use Rattle.rules.proofs.Kept.{run-keeps-sound}
-use Rattle.rules.proofs.SoundFacts.{sound→facts}
-use Rattle.handling.specs.Handled.{Outcome}
+use Rattle.kept.proofs.Resetting.{fresh-at}
+use Rattle.kept.proofs.Kept.{run-keeps-sound}
+use Rattle.sound_facts.proofs.SoundFacts.{sound→facts}
+use Rattle.outcome.specs.Handled.{Outcome}
 use Rattle.primal.specs.Call.{Call}
 use Rattle.promises.specs.Lent.{Lent}
 use Rattle.promises.proofs.Accepted.{act-sound}

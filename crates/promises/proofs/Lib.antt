@@ -1,6 +1,7 @@
 pub mod Accepted
 pub mod Determining
 pub mod Unique
+pub mod UniqueForC
 pub mod RunCounts
 pub mod TwoCalls
 pub mod EitherOrder

@@ -7,6 +7,5 @@ fn main() {
     read::lengths();
     read::largest();
     read::kinds();
-    write::answers();
-    write::requests();
+    write::all();
 }

@@ -2,19 +2,23 @@
 // was read is written again, so that its line shows its bytes.
 use crate::show;
 use record::Reading;
+use refusal::Answer;
+
+fn again(tape: &[u8], out: &mut [u8; 24]) -> Answer {
+    match reading::read_record(tape) {
+        Reading::Request(request, size) => {
+            show::told(b" ", size);
+            request_writing::write_request(out, 0, request)
+        }
+        Reading::Refused(refusal) => Answer::Refused(refusal),
+    }
+}
 
 fn line(tape: &[u8]) {
     let mut bytes = [238u8; 24];
-    show::text(b"read");
-    show::number(tape.len());
-    match reading::read_record(tape) {
-        Reading::Request(request, size) => {
-            show::number(size);
-            show::done(request_writing::write_request(&mut bytes, 0, request));
-        }
-        Reading::Refused(refusal) => show::refused(refusal::number(refusal)),
-    }
-    show::buffer(&bytes);
+    show::told(b"read ", tape.len());
+    let answer = again(tape, &mut bytes);
+    show::outcome(answer, &bytes);
 }
 
 // The tape cut after each of its bytes, down to none.
@@ -55,15 +59,14 @@ fn taken(kind: u8, length: u8) -> usize {
 }
 
 fn every_length(kind: u8) {
-    show::text(b"kind");
-    show::number(kind as usize);
-    show::text(b" takes");
+    show::told(b"kind ", kind as usize);
+    io::write_all(1, b" takes");
     let mut length: u8 = 0;
     while length < 28 {
-        show::number(taken(kind, length));
+        show::told(b" ", taken(kind, length));
         length += 1;
     }
-    show::text(b"\n");
+    io::write_all(1, b"\n");
 }
 
 pub fn kinds() {

@@ -70,9 +70,10 @@ fn record(i: u8, room: usize, pos: usize) {
     if room > 24 {
         return;
     }
-    show::place(room, pos);
-    show::done(put(&mut bytes[..room], pos, i));
-    show::buffer(&bytes);
+    show::told(b"write room ", room);
+    show::told(b" at ", pos);
+    let answer = put(&mut bytes[..room], pos, i);
+    show::outcome(answer, &bytes);
 }
 
 // A record of size bytes: no room, one byte short, exact, one byte more; then in the middle, one byte too far, at the end and past it.
@@ -90,7 +91,7 @@ fn rooms(i: u8, size: usize)
     record(i, size + 2, 1000);
 }
 
-pub fn answers() {
+pub fn all() {
     rooms(0, 8);
     rooms(1, 8);
     rooms(2, 8);
@@ -99,9 +100,6 @@ pub fn answers() {
     rooms(5, 6);
     rooms(6, 16);
     rooms(7, 14);
-}
-
-pub fn requests() {
     rooms(8, 20);
     rooms(9, 16);
     rooms(10, 6);

@@ -53,6 +53,10 @@ unfoldable pub after : List Request → Table → Table
 after [] t = t
 after (r ∷ rs) t = after rs (actOf r t .table)
 
+-- what the rule of one more request says, accepted or not
+abbrev pub ruleSays : List Request → Request → Table → List Record
+ruleSays rs r t = actOf r (after rs t) .said
+
 -- what one more request says, with 4,096 bytes of room
 abbrev pub saysAfter : List Request → Request → Table → List Record
 saysAfter rs r t = answered r 4096 (after rs t) .said

@@ -19,12 +19,12 @@ use Rattle.rules.specs.Calls.{actOf, actBy, verdict, verdictNumber, answered}
 use Rattle.rules.specs.Run.{served}
 use Rattle.table.proofs.WordsOfSlots.{slots-length}
 use Rattle.table.proofs.Laws.{Full}
-use Rattle.rules.proofs.Reflect.{test-true}
-use Rattle.rules.proofs.Kept.{served-keeps-sound}
+use Rattle.sound_facts.proofs.Reflect.{test-true}
+use Rattle.kept.proofs.Kept.{served-keeps-sound}
 use Rattle.record.proofs.Written.{writeAll-append}
 use Rattle.rules.proofs.Runs.{world, run-skip}
 use Rattle.rules.specs.Sound.{sound}
-use Rattle.handling.specs.Handled.{Outcome, laterVerdict}
+use Rattle.outcome.specs.Handled.{Outcome, laterVerdict}
 use Rattle.handling.proofs.Verdicts.{sound-verdict}
 use Rattle.running.specs.Tape.{posAfter, Serves}
 

@@ -1,11 +1,11 @@
 // A run: a tape of records, handled one after another (01, "Records").
 use record::Conflict;
 use record::Expansion;
-use record::Reading;
 use record::Record;
 use record::Request;
 use record::VirtualConflict;
 use refusal::Answer;
+use stopping::Next;
 use table::Table;
 ghost use mathlib.Core.Path.{_≡_};
 ghost use Rattle.refusal.specs.Refusal.{answerNumber};
@@ -29,14 +29,14 @@ fn end(out: &mut [u8], pos: usize, answer: Answer) -> usize
 fn serve_conflict(t: &mut Table, out: &mut [u8], pos: usize, c: Conflict) -> usize
     ensures { λ r. ⌜ Serves (Q.Conflict c) pos (now (t .entry)) (now (out .entry)) r (now (t .exit)) (now (out .exit)) ⌝ }
 {
-    let answer = handling::conflict(t, out, pos, c);
+    let answer = conflicts::conflict(t, out, pos, c);
     end(out, pos, answer)
 }
 
 fn serve_virtual_conflict(t: &mut Table, out: &mut [u8], pos: usize, c: VirtualConflict) -> usize
     ensures { λ r. ⌜ Serves (Q.VirtualConflict c) pos (now (t .entry)) (now (out .entry)) r (now (t .exit)) (now (out .exit)) ⌝ }
 {
-    let answer = handling::virtual_conflict(t, out, pos, c);
+    let answer = conflicts::virtual_conflict(t, out, pos, c);
     end(out, pos, answer)
 }
 
@@ -99,40 +99,19 @@ pub fn run<'a>(
     let mut pos: usize = 0;
     let mut count: u32 = 0;
     loop {
-        if rest.len() == 0 {
-            *stop = 0;
-            *refusal = 0;
-            *handled = count;
-            *written = pos;
-            return rest;
-        }
-        if left == 0 {
-            *stop = 1;
-            *refusal = 0;
-            *handled = count;
-            *written = pos;
-            return rest;
-        }
-        if handling::room(out, pos) < 4102 {
-            *stop = 2;
-            *refusal = 0;
-            *handled = count;
-            *written = pos;
-            return rest;
-        }
-        match reading::read_record(rest) {
-            Reading::Request(request, size) => {
-                pos = serve(t, out, pos, request);
-                rest = &rest[size..];
-                left -= 1;
-                count += 1;
-            }
-            Reading::Refused(bad) => {
-                *stop = 3;
+        match stopping::what_next(rest, left, outcome::room(out, pos)) {
+            Next::Stop(number) => {
+                *stop = number;
                 *refusal = 0;
                 *handled = count;
                 *written = pos;
                 return rest;
+            }
+            Next::Record(request, size) => {
+                pos = serve(t, out, pos, request);
+                rest = &rest[size..];
+                left -= 1;
+                count += 1;
             }
         }
     }

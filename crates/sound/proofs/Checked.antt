@@ -21,15 +21,15 @@ use Rattle.nodes.specs.Nodes.{present, outer, inner}
 use Rattle.rules.specs.Slots.{isNone, sameLink, up}
 use Rattle.rules.specs.Walk.{ends}
 use Rattle.rules.specs.Sound.{_⇒_, S5, S6, S7, sizesHold, isBare, ringHolds, s5, s6, s7, sound}
-use Rattle.rules.specs.Facts.{Sizes, Given}
-use Rattle.rules.specs.FactsOfBlossoms.{PresentBlossom}
-use Rattle.rules.proofs.Reflect.{tests, true-test, test-true, test-false, and→, imp→, eqb-no}
-use Rattle.rules.proofs.ReflectSlots.{sameLink↔, outer-present, inner-present, outer-not-inner}
-use Rattle.rules.proofs.Past.{at-none, present-below}
-use Rattle.rules.proofs.ChildLaws.{above-outer}
-use Rattle.rules.proofs.Insides.{blossom↔}
-use Rattle.rules.proofs.SizesAndPointers.{sizes↔}
-use Rattle.rules.proofs.SoundParts.{sound→rule, sound→core, sound→rest}
+use Rattle.sound_facts.specs.Facts.{Sizes, Given}
+use Rattle.sound_facts.specs.FactsOfBlossoms.{PresentBlossom}
+use Rattle.sound_facts.proofs.Reflect.{tests, true-test, test-true, test-false, and→, imp→, eqb-no}
+use Rattle.sound_facts.proofs.ReflectSlots.{sameLink↔, outer-present, inner-present, outer-not-inner}
+use Rattle.sound_facts.proofs.Past.{at-none, present-below}
+use Rattle.sound_facts.proofs.ChildLaws.{above-outer}
+use Rattle.sound_facts.proofs.Insides.{blossom↔}
+use Rattle.sound_facts.proofs.SizesAndPointers.{sizes↔}
+use Rattle.sound_facts.proofs.SoundParts.{sound→rule, sound→core, sound→rest}
 use Rattle.sound_slots.specs.Pass.{allFrom}
 use Rattle.sound_slots.specs.OneSlot.{slotHolds, isVacant, vacantOf, ringPlaced, ruleOf}
 use Rattle.sound_walks.specs.Marks.{Judged, listStep, ringStep, sweep, hasRing, marked}

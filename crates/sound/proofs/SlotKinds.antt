@@ -17,13 +17,13 @@ use Rattle.nodes.specs.Nodes.{isBlossom, isDefect, present, outer, inner}
 use Rattle.nodes.specs.Climb.{inside}
 use Rattle.rules.specs.Slots.{isNone, isSome, sameLink, isGrow, isShrink, up, next}
 use Rattle.rules.specs.Sound.{_⇒_, farEnd, isDefectInside, s8}
-use Rattle.rules.specs.Facts.{Sizes}
-use Rattle.rules.specs.FactsOfNodes.{FullLink, Virtual, InPair, Paired, Kind, free-node, virtual-node, paired-node, root-node, minus-node, plus-node, OuterChild}
-use Rattle.rules.specs.FactsOfBlossoms.{PresentBlossom, InBlossom}
-use Rattle.rules.proofs.Reflect.{tests, test-case, and→, →and, or→, imp→, →imp, same-or-not, eqb-no}
-use Rattle.rules.proofs.ReflectSlots.{stay↔, grow↔, shrink↔, inner↔, not-present↔, sameLink↔, grow-shrink}
-use Rattle.rules.proofs.Past.{present-some}
-use Rattle.rules.proofs.KindLaws.{far-end-paired, far-end-tree, far-end-inner}
+use Rattle.sound_facts.specs.Facts.{Sizes}
+use Rattle.sound_facts.specs.FactsOfNodes.{FullLink, Virtual, InPair, Paired, Kind, free-node, virtual-node, paired-node, root-node, minus-node, plus-node, OuterChild}
+use Rattle.sound_facts.specs.FactsOfBlossoms.{PresentBlossom, InBlossom}
+use Rattle.sound_facts.proofs.Reflect.{tests, test-case, and→, →and, or→, imp→, →imp, same-or-not, eqb-no}
+use Rattle.sound_facts.proofs.ReflectSlots.{stay↔, grow↔, shrink↔, inner↔, not-present↔, sameLink↔, grow-shrink}
+use Rattle.sound_facts.proofs.Past.{present-some}
+use Rattle.sound_facts.proofs.KindLaws.{far-end-paired, far-end-tree, far-end-inner}
 use Rattle.sound_slots.specs.OneSlot.{isThrough, isFarTouch, touchesHold, ringPlaced, innerHolds, pointsBack, pairHolds, stayHolds, growHolds, shrinkHolds, ruleOf, slotHolds}
 
 -- a slot that is given out and judged, or an empty one

@@ -15,13 +15,13 @@ use Rattle.nodes.specs.Nodes.{isBlossom, isDefect, outer, inner}
 use Rattle.nodes.specs.Climb.{inside}
 use Rattle.rules.specs.Slots.{isNone, isSome, sameLink, isStay, isGrow, isShrink, up, next}
 use Rattle.rules.specs.Sound.{_⇒_, S8, farEnd, isDefectInside, isBare, s8, sound}
-use Rattle.rules.specs.Facts.{Given, Core, Rest}
-use Rattle.rules.specs.FactsOfNodes.{FullLink, Virtual, Paired, Kind, free-node, virtual-node, paired-node, root-node, minus-node, plus-node}
-use Rattle.rules.proofs.Reflect.{tests, and→, →and, →or, imp→, →imp, eqb-no}
-use Rattle.rules.proofs.ReflectSlots.{stay↔, grow↔, shrink↔, sameLink↔, grow-shrink, stay-shrink, stay-grow}
-use Rattle.rules.proofs.Past.{present-some}
-use Rattle.rules.proofs.KindLaws.{far-end-paired, far-end-tree, far-end-inner}
-use Rattle.rules.proofs.SoundParts.{sound→everywhere, sound→core, sound→rest}
+use Rattle.sound_facts.specs.Facts.{Given, Core, Rest}
+use Rattle.sound_facts.specs.FactsOfNodes.{FullLink, Virtual, Paired, Kind, free-node, virtual-node, paired-node, root-node, minus-node, plus-node}
+use Rattle.sound_facts.proofs.Reflect.{tests, and→, →and, →or, imp→, →imp, eqb-no}
+use Rattle.sound_facts.proofs.ReflectSlots.{stay↔, grow↔, shrink↔, sameLink↔, grow-shrink, stay-shrink, stay-grow}
+use Rattle.sound_facts.proofs.Past.{present-some}
+use Rattle.sound_facts.proofs.KindLaws.{far-end-paired, far-end-tree, far-end-inner}
+use Rattle.sound_facts.proofs.SoundParts.{sound→everywhere, sound→core, sound→rest}
 use Rattle.sound_slots.specs.OneSlot.{isThrough, isFarTouch, touchesHold, ringPlaced, innerHolds, pointsBack, pairHolds, stayHolds, growHolds, shrinkHolds, ruleOf, slotHolds, isVacant, vacantOf}
 
 module _ (t : Table) (full : Full t) (h : T (sound t)) where

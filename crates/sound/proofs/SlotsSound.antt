@@ -14,19 +14,19 @@ use Rattle.nodes.specs.Nodes.{isBlossom, present, outer, inner}
 use Rattle.rules.specs.Slots.{isNone, isFull, up, next}
 use Rattle.rules.specs.Walk.{ends}
 use Rattle.rules.specs.Sound.{_⇒_, Rule, S1, S2, S3, S4, S5, S6, S7, S8, holds, ringHolds, s5, s6, sound}
-use Rattle.rules.specs.Facts.{Sizes, Given, Names, Pointers, Core}
-use Rattle.rules.specs.FactsOfNodes.{Kind, free-node, virtual-node, paired-node, root-node, minus-node, plus-node, OuterChild}
-use Rattle.rules.specs.FactsOfBlossoms.{PresentBlossom, Ring, InBlossom}
-use Rattle.rules.proofs.Reflect.{tests, →and, →imp}
-use Rattle.rules.proofs.ReflectSlots.{isFull↔, outer-present, inner-present}
-use Rattle.rules.proofs.Chains.{chain-start}
-use Rattle.rules.proofs.OuterKinds.{kind→s3, kind→s4}
-use Rattle.rules.proofs.OuterLists.{s5→children, s7→upward}
-use Rattle.rules.proofs.Insides.{blossom↔, s6→ring, facts→s7}
-use Rattle.rules.proofs.SizesAndPointers.{→s1, pointers↔}
-use Rattle.rules.proofs.SoundParts.{rule→sound}
-use Rattle.rules.proofs.ChildLaws.{next-child}
-use Rattle.rules.proofs.RingLaws.{ring-first, ring-next}
+use Rattle.sound_facts.specs.Facts.{Sizes, Given, Names, Pointers, Core}
+use Rattle.sound_facts.specs.FactsOfNodes.{Kind, free-node, virtual-node, paired-node, root-node, minus-node, plus-node, OuterChild}
+use Rattle.sound_facts.specs.FactsOfBlossoms.{PresentBlossom, Ring, InBlossom}
+use Rattle.sound_facts.proofs.Reflect.{tests, →and, →imp}
+use Rattle.sound_facts.proofs.ReflectSlots.{isFull↔, outer-present, inner-present}
+use Rattle.sound_facts.proofs.Chains.{chain-start}
+use Rattle.sound_facts.proofs.OuterKinds.{kind→s3, kind→s4}
+use Rattle.sound_facts.proofs.OuterLists.{s5→children, s7→upward}
+use Rattle.sound_facts.proofs.Insides.{blossom↔, s6→ring, facts→s7}
+use Rattle.sound_facts.proofs.SizesAndPointers.{→s1, pointers↔}
+use Rattle.sound_facts.proofs.SoundParts.{rule→sound}
+use Rattle.sound_facts.proofs.ChildLaws.{next-child}
+use Rattle.sound_facts.proofs.RingLaws.{ring-first, ring-next}
 use Rattle.sound_slots.specs.OneSlot.{slotHolds}
 use Rattle.sound.proofs.SlotKinds.{kind, undamaged, ring-owner, inner-child, in-blossom, touches}
 

@@ -1,16 +1,16 @@
 -- Steps of the code that branch: what was found so far, in the code's order, and then the function's own promise.
 use mathlib.Core.Path.{_≡_, refl, sym, ap, _∙_}
 use mathlib.Core.Bool.{Bool, true, false, _&&_, _||_, not}
-use Prim.Native.Nat.{ℕ, _≤_, _<_}
-use lib.Dec.{eqb}
+use Prim.Native.Nat.{ℕ, suc, _≤_, _<_}
+use lib.Dec.{eqb, ltb}
 use borrow.Author.Tests.{eq-eqb, ne-eqb, lt-ltb, le-ltb}
 use Rattle.slot.specs.declared.state.State.{State}
 use Rattle.slot.specs.Slot.{Link, Slot, noLink, mirror}
 use Rattle.table.specs.Table.{Table, at}
 use Rattle.nodes.specs.Nodes.{isDefect}
 use Rattle.nodes.specs.Climb.{insideWithin, inside}
-use Rattle.rules.specs.Slots.{isNone, isSome, sameLink, isGrow, isShrink}
-use Rattle.rules.specs.Sound.{isDefectInside}
+use Rattle.rules.specs.Slots.{isNone, isSome, sameLink, isStay, isGrow, isShrink}
+use Rattle.rules.specs.Sound.{isDefectInside, isBare}
 use Rattle.sound_slots.specs.OneSlot.{isThrough, isFarTouch, touchesHold, ringPlaced, pointsBack, pairHolds, growHolds, shrinkHolds, ruleOf, slotHolds, vacantOf, isVacant}
 
 -- a test that fails decides; one that holds leaves the rest to decide
@@ -31,9 +31,12 @@ or-rest : (a b r : Bool) → a ≡ false → r ≡ b → r ≡ (a || b)
 or-rest a b r h e = e ∙ rw h
 
 -- a node is inside itself
-inside-itself : (t : Table) (x n : ℕ) → n ≡ x → inside t x n ≡ true
+inside-within : (t : Table) (x n k : ℕ) → n ≡ x → insideWithin (suc k) t x n ≡ true
 unfolding insideWithin
-inside-itself t x n e = rw (eq-eqb n x e)
+inside-within t x n k e = rw (eq-eqb n x e)
+
+inside-itself : (t : Table) (x n : ℕ) → n ≡ x → inside t x n ≡ true
+inside-itself t x n = inside-within t x n 255
 
 -- tests put together one after another
 module _ (p q a b x y : Bool) (e : p ≡ q) (f : x ≡ (p && a)) (g : y ≡ (x && b)) where
@@ -42,6 +45,34 @@ module _ (p q a b x y : Bool) (e : p ≡ q) (f : x ≡ (p && a)) (g : y ≡ (x &
 
   pub joined-more : (c z : Bool) → z ≡ (y && c) → z ≡ (q && a && b && c)
   joined-more c z h = rw (h, joined)
+
+pub same-link-step :
+    (l m : Link) (here there r : Bool)
+    → here ≡ (eqb (l .touch) (m .touch) && eqb (l .through) (m .through))
+    → there ≡ (here && eqb (l .peerTouch) (m .peerTouch))
+    → r ≡ (there && eqb (l .peerThrough) (m .peerThrough))
+    → r ≡ sameLink l m
+same-link-step l m here there r e f g = g ∙ rw (f, e)
+
+pub bare-step :
+    (s : Slot) (above beside below unlinked r : Bool)
+    → above ≡ (isNone (s .parent) && isNone (s .firstChild))
+    → beside ≡ (above && isNone (s .sibling))
+    → below ≡ (beside && isNone (s .ring))
+    → unlinked ≡ sameLink (s .link) noLink
+    → r ≡ (below && unlinked)
+    → r ≡ isBare s
+bare-step s above beside below unlinked r e f g h i = i ∙ rw (g, f, e, h)
+
+pub back-step :
+    (t : Table) (n peer : ℕ) (state : State) (back : ℕ) (stays r : Bool)
+    → state ≡ at t peer .state
+    → back ≡ at t peer .sibling
+    → stays ≡ isStay state
+    → r ≡ (stays && eqb back n)
+    → r ≡ pointsBack t n peer
+unfolding pointsBack
+back-step t n peer state back stays r e f g h = h ∙ rw (g, e, f)
 
 -- a Grow node with a sibling, and one without a parent
 module _ (t : Table) (n : ℕ) (s : Slot) where
@@ -79,24 +110,31 @@ module _ (t : Table) (n : ℕ) (s : Slot) (above : State) (e : above ≡ at t (s
     unfolding shrinkHolds
     minus-goes u q v = goes _ _ _ (minus-test ∙ q) v
 
+-- whether a number is a defect's, by the begin that was read
+module _ (t : Table) (n b : ℕ) (p : b ≡ t .begin) where
+  is-defect : n < b → isDefect t n ≡ true
+  is-defect q = ap (λ (z : ℕ). ltb n z) (sym p) ∙ lt-ltb n b q
+
+  no-defect : b ≤ n → isDefect t n ≡ false
+  no-defect q = ap (λ (z : ℕ). ltb n z) (sym p) ∙ le-ltb n b q
+
 module _ (t : Table) (x n b : ℕ) (p : b ≡ t .begin) where
   pub touch-blossom : b ≤ n → false ≡ isDefectInside t x n
-  touch-blossom q = rw (← p, le-ltb n b q)
+  touch-blossom q = stops (isDefect t n) (inside t x n) (no-defect t n b p q)
 
   pub touch-own : n < b → n ≡ x → true ≡ isDefectInside t x n
-  unfolding insideWithin
-  touch-own q e = rw (← p, lt-ltb n b q, eq-eqb n x e)
+  touch-own q e = goes (isDefect t n) (inside t x n) true (is-defect t n b p q) (sym (inside-itself t x n e))
 
   pub touch-climbs : (r : Bool) → n < b → r ≡ inside t x n → r ≡ isDefectInside t x n
-  touch-climbs r q e = e ∙ rw (← p, lt-ltb n b q)
+  touch-climbs r q e = goes (isDefect t n) (inside t x n) r (is-defect t n b p q) e
 
 module _ (t : Table) (far n b : ℕ) (p : b ≡ t .begin) where
   pub far-blossom : b ≤ n → false ≡ isFarTouch t far n
-  far-blossom q = rw (← p, le-ltb n b q)
+  far-blossom q = stops (isDefect t n) (eqb n (at t far .link .touch) || inside t far n) (no-defect t n b p q)
 
   module _ (q : n < b) where
     defect : isDefect t n ≡ true
-    defect = rw (← p) (lt-ltb n b q)
+    defect = is-defect t n b p q
 
     abbrev named : Bool
     named = eqb n (at t far .link .touch)

@@ -1,14 +1,16 @@
 -- Walks and passes, step by step as the code takes them: what was found so far, in the code's order, and what is left.
 use mathlib.Core.Path.{_≡_, refl, sym, _∙_}
 use mathlib.Core.List.{List}
-use mathlib.Core.Bool.{Bool, true, false}
+use mathlib.Core.Bool.{Bool, true, false, _&&_, not}
 use Prim.Native.Nat.{ℕ, zero, suc, _+_, _-_, _≤_, _<_}
 use native.Mathlib.Numerals.{add-one}
 use native.Mathlib.Omega.{arith}
 use lib.ListN.{length, set, List·getD-eq-default}
+use lib.Dec.{eqb}
 use borrow.Author.Tests.{eq-eqb, ne-eqb}
 use Rattle.slot.specs.Number.{none}
 use Rattle.table.specs.Table.{Table, at}
+use Rattle.nodes.specs.Nodes.{isBlossom, present, outer, inner}
 use Rattle.rules.specs.Slots.{next}
 use Rattle.rules.specs.Sound.{isOuterChild, nextInRing}
 use Rattle.sound_walks.specs.Marks.{marked, Walked, walkedOf, marking, Judged, judgedOf, listEnded, listStep, hasRing, isRingNode, isOddRing, ringStep, sweep}
@@ -16,6 +18,29 @@ use Rattle.sound_walks.specs.Marks.{marked, Walked, walkedOf, marking, J
 pub marked-past : (l : List ℕ) (n : ℕ) → length l ≤ n → false ≡ marked l n
 unfolding marked
 marked-past l n h = rw (List·getD-eq-default l 0 h)
+
+-- ---- tests put together by `both`, in the code's order
+
+pub has-ring-step : (t : Table) (b : ℕ) (blossom given r : Bool) → blossom ≡ isBlossom t b → given ≡ present t b → r ≡ (blossom && given) → r ≡ hasRing t b
+has-ring-step t b blossom given r e f g = g ∙ rw (e, f)
+
+pub ring-node-step :
+    (t : Table) (b n above after : ℕ) (inside owned r : Bool)
+    → inside ≡ inner t n
+    → above ≡ at t n .parent
+    → after ≡ at t n .sibling
+    → owned ≡ (inside && eqb above b)
+    → r ≡ (owned && not (eqb after none))
+    → r ≡ isRingNode t b n
+ring-node-step t b n above after inside owned r e f g h i = i ∙ rw (h, e, f, g)
+
+pub child-step :
+    (t : Table) (i n above : ℕ) (outside r : Bool)
+    → outside ≡ outer t n
+    → above ≡ at t n .parent
+    → r ≡ (outside && eqb above i)
+    → r ≡ isOuterChild t i n
+child-step t i n above outside r e f g = g ∙ rw (e, f)
 
 -- ---- a walk
 

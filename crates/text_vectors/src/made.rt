@@ -1,5 +1,6 @@
 // The tape that a line made.
-use record::Reading;
+use crate::message;
+use crate::message::say;
 
 fn byte(byte: u8) {
     io::print_hex(1, byte as u64, 2);
@@ -13,40 +14,36 @@ fn hex(bytes: &[u8]) {
     }
 }
 
-fn compare(words: &[u8], n: usize, line: &[u8]) {
-    if words.len() < n {
-        return;
-    }
-    let own = &words[0..n];
+fn compare(own: &[u8], line: &[u8]) {
     if check::same(own, line) {
-        io::write_all(1, b", written in the same words\n");
+        say(message::SAME_WORDS);
         return;
     }
-    io::write_all(1, b", written as ");
+    say(message::OTHER_WORDS);
     io::write_all(1, own);
 }
 
 fn written(tape: &[u8], line: &[u8]) {
-    let Reading::Request(request, _) = reading::read_record(tape) else {
-        return;
-    };
     let mut space = io::buffer();
-    let words: &mut [u8] = &mut space;
-    let end = text_writing::write_request(words, 0, request);
-    compare(words, end, line);
+    let room: &mut [u8] = &mut space;
+    let n = text::write_records(room, 0, tape);
+    let words = &room[..];
+    if n <= words.len() {
+        compare(&words[0..n], line);
+    }
 }
 
 // The first n bytes.
 pub fn show(tape: &[u8], n: usize, line: &[u8]) {
     if n == 0 {
-        io::write_all(1, b"  passed over\n");
+        say(message::PASSED_OVER);
         return;
     }
     if tape.len() < n {
         return;
     }
-    io::write_all(1, b"  tape ");
     let bytes = &tape[0..n];
+    say(message::TAPE);
     hex(bytes);
     written(bytes, line);
 }

@@ -1,21 +1,18 @@
 // Reads each line of standard input as a text by itself, and prints the tape that it makes; a request is then written in words
 // again, and held to the line. Then reads all of the lines as one text, with much room and with little.
 mod made;
+mod message;
 
 use libc::STDIN_FILENO;
-use text_reading::Outcome;
-
-fn say(words: &[u8], number: usize) {
-    io::write_all(1, words);
-    io::print_decimal(1, number as u64);
-    io::write_all(1, b"\n");
-}
+use message::say;
+use message::say_line;
+use text::Outcome;
 
 fn read(text: &[u8], tape: &mut [u8]) {
-    match text_reading::read_text(text, tape) {
+    match text::read_text(text, tape) {
         Outcome::Tape(n) => made::show(tape, n, text),
-        Outcome::NotARequest(line) => say(b"  not a request: line ", line),
-        Outcome::NoRoom(line) => say(b"  no room for the record: line ", line),
+        Outcome::NotARequest(line) => say_line(message::NOT_A_REQUEST, line),
+        Outcome::NoRoom(line) => say_line(message::NO_ROOM, line),
     }
 }
 
@@ -40,16 +37,24 @@ fn lines(text: &[u8]) {
 
 fn all(text: &[u8]) {
     let mut tape = io::buffer();
-    let mut little = [0u8; 42];
-    io::write_all(1, b"all lines\n");
+    say(message::ALL);
     read(text, &mut tape);
-    io::write_all(1, b"all lines, a tape of 42 bytes\n");
-    read(text, &mut little);
+}
+
+fn all_in_little_room(text: &[u8]) {
+    let mut tape = [0u8; 42];
+    say(message::LITTLE_ROOM);
+    read(text, &mut tape);
+}
+
+fn each_way(text: &[u8]) {
+    lines(text);
+    all(text);
+    all_in_little_room(text);
 }
 
 fn main() {
     let mut text = io::large_buffer();
     let n = io::read_full(STDIN_FILENO, &mut text);
-    lines(&text[..n]);
-    all(&text[..n]);
+    each_way(&text[..n]);
 }

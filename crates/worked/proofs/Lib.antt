@@ -1,3 +1,5 @@
+pub mod Marked
+pub mod RulesApply
 pub mod RefusalExamples
 pub mod SoundExamples
 pub mod RunExamples

@@ -6,7 +6,7 @@ use Rattle.table.specs.Table.{Table}
 use Rattle.counts.specs.Making.{fresh}
 use Rattle.record.specs.declared.request.Request.{Request}
 use Rattle.rules.specs.Listing.{listing}
-use Rattle.rules.specs.Named.{namedIn, one, times, isListed}
+use Rattle.listed.specs.Named.{namedIn, one, times, isListed}
 use Rattle.rules.proofs.Script.{meet, join, border, after, all-rules}
 
 start : Table

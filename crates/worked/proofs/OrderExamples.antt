@@ -10,10 +10,10 @@ use Rattle.record.specs.declared.request.Request.{Request}
 use Rattle.rules.specs.Act.{create, expand}
 use Rattle.rules.specs.Sound.{sound}
 use Rattle.rules.proofs.Script.{meet, join, border, open-up, after, saysAfter, numberAfter, grows, shrinks, all-rules}
-use Rattle.rules.proofs.Renewing.{Whole}
-use Rattle.rules.specs.Orders.{Ask, AllAsked, PairwiseApart}
-use Rattle.rules.proofs.Areas.{apart-by-test}
-use Rattle.rules.proofs.Wholes.{to-whole}
+use Rattle.kept.proofs.Renewing.{Whole}
+use Rattle.orders.specs.Orders.{Ask, AllAsked, PairwiseApart}
+use Rattle.orders.proofs.Areas.{apart-by-test}
+use Rattle.kept.proofs.Wholes.{to-whole}
 
 -- trees 2, 0, 1 and 5, 3, 4; the blossom 128 of 8, 6, 7 as a − node below 10, with 9 below it
 ready : Table

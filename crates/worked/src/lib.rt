@@ -1,2 +1,2 @@
-// Worked examples on the rules of document 01 that take long to compute, in proofs/. There is no code here. The examples that 01 marks
-// for proof, and those about single rules, stand beside the rules, in `rules`.
+// Worked examples on the rules of document 01, in proofs/: those that 01 marks for proof, and those that take long to compute. There
+// is no code here. Examples about single rules stand beside the rules, in `rules`.

@@ -1,4 +1,4 @@
-use Rattle.blossom.proofs.Rings.{create-step}
+use Rattle.blossom.proofs.Placed.{create-step}
 use borrow.Author.Needs.{needs}
 use Rattle.blossom.proofs.create_blossom.Statement.{statement}
 use Rattle.blossom.proofs.create_blossom.Tie as tie

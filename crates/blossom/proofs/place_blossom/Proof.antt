@@ -1,4 +1,4 @@
-use Rattle.blossom.proofs.Rings.{placed-root, placed-child}
+use Rattle.blossom.proofs.Placed.{placed-root, placed-child}
 use borrow.Author.Needs.{needs}
 use Rattle.blossom.proofs.place_blossom.Statement.{statement}
 use Rattle.blossom.proofs.place_blossom.Tie as tie

@@ -1,4 +1,4 @@
-use Rattle.handling.proofs.Steps.{refused-by, accepted-by, judged-no-room, judged-nodes, expansion-judged}
+use Rattle.outcome.proofs.Outcomes.{refused-by, accepted-by, judged-no-room, judged-nodes, expansion-judged}
 use mathlib.Core.Path.{sym, _∙_}
 use borrow.Author.Needs.{needs}
 use Rattle.handling.proofs.expand.Statement.{statement}

@@ -1,5 +1,6 @@
 use native.Mathlib.Omega.{arith}
-use Rattle.handling.proofs.Steps.{refused-by, accepted-by, list-no-room, list-room, list-world, defects-bound}
+use Rattle.outcome.proofs.Outcomes.{refused-by, accepted-by}
+use Rattle.handling.proofs.Steps.{list-no-room, list-room, list-world, defects-bound}
 use Rattle.table.specs.Words.{tableOf}
 use mathlib.Core.Path.{refl}
 use borrow.Author.Needs.{needs}

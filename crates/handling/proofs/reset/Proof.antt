@@ -1,4 +1,5 @@
-use Rattle.handling.proofs.Steps.{accepted-by, reset-accepted, reset-world}
+use Rattle.outcome.proofs.Outcomes.{accepted-by}
+use Rattle.handling.proofs.Steps.{reset-accepted, reset-world}
 use borrow.Author.Needs.{needs}
 use Rattle.handling.proofs.reset.Statement.{statement}
 use Rattle.handling.proofs.reset.Tie as tie

@@ -1,3 +1,4 @@
+use Rattle.judging.proofs.Steps.{either-of-four}
 use borrow.Author.Needs.{needs}
 use Rattle.judging.proofs.conflict_names_no_node.Statement.{statement}
 use Rattle.judging.proofs.conflict_names_no_node.Tie as tie
@@ -13,4 +14,4 @@ conflict-names-no-node-spec =
     (λ c κs. search needs)
     (λ c κs. search needs)
     (λ c κs. search needs)
-    (λ c. (cc)))
+    (λ c. either-of-four _ _ _ _ _ _ _ _ _ _ _ (c .before .before .before .before .before .before .is-no-node .ensures) (c .before .before .before .before .before .is-no-node2 .ensures) (c .before .before .before .before .either .ensures) (c .before .before .before .is-no-vertex .ensures) (c .before .before .either2 .ensures) (c .before .is-no-vertex2 .ensures) (c .either3 .ensures)))

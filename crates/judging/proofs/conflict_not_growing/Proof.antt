@@ -1,3 +1,4 @@
+use Rattle.judging.proofs.Steps.{minus-or-none-growing}
 use borrow.Author.Needs.{needs}
 use Rattle.judging.proofs.conflict_not_growing.Statement.{statement}
 use Rattle.judging.proofs.conflict_not_growing.Tie as tie
@@ -13,4 +14,4 @@ conflict-not-growing-spec =
     (λ c κs. search needs)
     (λ c κs. search needs)
     (λ c κs. search needs)
-    (λ c. (cc)))
+    (λ c. minus-or-none-growing _ _ _ _ _ _ _ _ _ _ _ (c .before .before .before .before .before .before .is-minus .ensures) (c .before .before .before .before .before .is-minus2 .ensures) (c .before .before .before .before .either .ensures) (c .before .before .before .is-growing .ensures) (c .before .before .is-growing2 .ensures) (c .before .either2 .ensures) (c .either3 .ensures)))

@@ -1,3 +1,4 @@
+use Rattle.judging.proofs.Steps.{either-of-three}
 use borrow.Author.Needs.{needs}
 use Rattle.judging.proofs.virtual_names_no_node.Statement.{statement}
 use Rattle.judging.proofs.virtual_names_no_node.Tie as tie
@@ -11,4 +12,4 @@ virtual-names-no-node-spec =
     (λ c κs. search needs)
     (λ c κs. search needs)
     (λ c κs. search needs)
-    (λ c. (cc)))
+    (λ c. either-of-three _ _ _ _ _ _ _ _ (c .before .before .before .before .is-no-node .ensures) (c .before .before .before .is-no-vertex .ensures) (c .before .before .either .ensures) (c .before .is-no-vertex2 .ensures) (c .either2 .ensures)))

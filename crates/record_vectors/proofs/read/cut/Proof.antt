@@ -1,8 +1,8 @@
+use borrow.Author.Needs.{needs}
 use Prim.Native.Nat.{_≤_, _-_}
 use lib.ListN.{length}
 use mathlib.Core.Path.{sym}
 use lib.Seq.{length-take-le}
-use borrow.Author.Needs.{needs}
 use Rattle.record_vectors.proofs.read.cut.Statement.{statement}
 use Rattle.record_vectors.proofs.read.cut.Tie as tie
 

@@ -1,5 +1,5 @@
-use Prim.Native.Nat.{_≤_, _-_}
 use borrow.Author.Needs.{needs}
+use Prim.Native.Nat.{_≤_, _-_}
 use Rattle.record_vectors.proofs.read.kinds.Statement.{statement}
 use Rattle.record_vectors.proofs.read.kinds.Tie as tie
 

@@ -1,14 +1,13 @@
-use Prim.Native.Nat.{_≤_, _-_}
-use lib.ListN.{length}
 use borrow.Author.Needs.{needs}
+use Prim.Native.Nat.{_≤_, _-_}
 use Rattle.record_vectors.proofs.show.bytes.Statement.{statement}
 use Rattle.record_vectors.proofs.show.bytes.Tie as tie
 
 abbrev Inv-loop : tie.InvT-loop
-Inv-loop list i₀ t4 i = i ≤ length list
+Inv-loop lent i₀ t4 i = i ≤ 24
 
 abbrev μ-loop : tie.MeasureT-loop
-μ-loop list i₀ t4 i = length list - i
+μ-loop lent i₀ t4 i = 24 - i
 
 pub bytes-spec : {M : Type 1} → statement M
 bytes-spec =

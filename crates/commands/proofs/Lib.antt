@@ -1,0 +1,11 @@
+pub mod ExpansionCommands
+pub mod MinusNodes
+pub mod SubtreeCommands
+pub mod AugmentCommands
+pub mod RowCommands
+pub mod RequestCommands
+pub mod CommandRecords
+pub mod CommandsAlone
+pub mod CommandBytes
+pub mod AnsweredCommands
+pub mod CommandsFit

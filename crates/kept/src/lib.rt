@@ -1,0 +1,2 @@
+// A sound table is sound after every call: proofs/Kept and proofs/KeptByRules; budgets of 256 suffice: proofs/BudgetsSuffice.
+// There is no code here.

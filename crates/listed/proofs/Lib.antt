@@ -1,0 +1,14 @@
+pub mod CountLaws
+pub mod RestOfRing
+pub mod InsideCounts
+pub mod NestedCalls
+pub mod ListingLaws
+pub mod ListingBudget
+pub mod ListingCounts
+pub mod ListingEntries
+pub mod SlotsListed
+pub mod ListedOnce
+pub mod ListingRoom
+pub mod MatchedPlaces
+pub mod ListingEnough
+pub mod EachEventOnce

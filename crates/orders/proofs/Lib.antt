@@ -1,0 +1,14 @@
+pub mod Within
+pub mod MatchingWithin
+pub mod ReadingWithin
+pub mod BlossomWithin
+pub mod ExpansionWithin
+pub mod ConflictWithin
+pub mod ConcernedNodes
+pub mod NamedNodes
+pub mod Areas
+pub mod RequestsWithin
+pub mod TwoRequests
+pub mod StillApart
+pub mod Reordering
+pub mod AnyOrder

@@ -1,0 +1,4 @@
+pub mod Chain
+pub mod FactsOfNodes
+pub mod FactsOfBlossoms
+pub mod Facts

@@ -1,0 +1,1 @@
+// Soundness as facts, in specs/, and that they hold exactly where the eight tests do: proofs/SoundFacts. There is no code here.

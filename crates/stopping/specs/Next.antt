@@ -1,0 +1,25 @@
+-- "Before each record it stops, in this order": the tape is empty, the allowance used, the output too full, the record bad.
+use mathlib.Core.List.{List}
+use Prim.Native.Nat.{ℕ}
+use lib.ListN.{length}
+use lib.Dec.{eqb, ltb}
+use Rattle.lists.specs.Choice.{pick}
+use Rattle.record.specs.declared.request.Reading.{Reading}
+use Rattle.record.specs.declared.request.Reading.the-variants as G
+use Rattle.record.specs.Reading as reading
+use Rattle.rules.specs.Run.{tapeEmpty, allowanceUsed, outputFull, badRecord, stopNumber}
+use Rattle.stopping.specs.declared.Next.{Next}
+use Rattle.stopping.specs.declared.Next.the-variants as N
+
+abbrev pub afterReading : Reading → Next
+afterReading (G.Request r size) = N.Record r size
+afterReading (G.Refused n) = N.Stop (stopNumber badRecord)
+
+-- what comes next, with this rest of the tape, so many records allowed and so much room
+unfoldable pub nextOf : List ℕ → ℕ → ℕ → Next
+nextOf rest left room =
+    pick (eqb (length rest) 0)
+    (N.Stop (stopNumber tapeEmpty))
+    (pick (eqb left 0)
+    (N.Stop (stopNumber allowanceUsed))
+    (pick (ltb room 4102) (N.Stop (stopNumber outputFull)) (afterReading (reading.read rest))))

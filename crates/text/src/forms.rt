@@ -1,0 +1,49 @@
+// The words of each record: a line for each, with a bar before it, in which marks stand for numbers of the record.
+use crate::fields::narrow_at;
+use record::kind;
+
+// `#n` and a digit stand for the node at that place of the record, `#v` and a digit for the vertex; places are counted in steps of
+// two bytes. The number of a request's line is its kind: no record has kind 0.
+pub const FORMS: [u8; 830] = *b"|conflict #n2 #n3 touch #n4 #n5 vertex #v6 #v8
+|virtual #n2 touch #n3 vertex #v4 virtual #v6
+|expand #n2
+|reset
+|list
+|  #n2 Stay
+|  #n2 Grow
+|  #n2 Shrink
+|  create #n2
+|  expanded #n2
+|  pair #n2 #n3 through #v4 #v6
+|  pair #n2 virtual #v5 through #v3
+|  end
+|  refused 1: table not sound
+|  refused 2: no room for the record
+|  refused 3: no such node, or a vertex is none
+|  refused 4: a named node is not outer
+|  refused 5: both nodes are one
+|  refused 6: a touch is not a defect inside its node
+|  refused 7: no named node is Grow, or one is Shrink
+|  refused 8: no slot left for a blossom
+|  refused 9: command room below 4096 bytes
+|  refused 10: listing room below 16 bytes for each present defect
+|  refused 11: node to expand is not a present - blossom
+|  refused 12: bad record
+|  refused 13: begin outside 1 to 256
+";
+
+// The end of an accepted request. The refusals follow it by their numbers (01, "Numbers given back").
+pub const END: usize = 13;
+
+// The number of the line of a record, which has one of 01's kinds.
+pub fn number_of(record: &[u8]) -> usize {
+    match narrow_at(record, 2) {
+        kind::SPEED => 6 + narrow_at(record, 6) as usize,
+        kind::CREATE => 9,
+        kind::EXPAND => 10,
+        kind::PAIR => 11,
+        kind::VIRTUAL_PAIR => 12,
+        kind::END => END + narrow_at(record, 4) as usize,
+        request => request as usize,
+    }
+}
