@@ -2,7 +2,7 @@
 use mathlib.Core.Path.{_≡_, refl, sym, ap, _∙_}
 use mathlib.Core.Logic.{_≢_}
 use mathlib.Core.List.{List, [], _∷_, _++_}
-use Prim.Native.Nat.{ℕ, _+_, _*_, _≤_, _<_}
+use Prim.Native.Nat.{ℕ, _+_, _*_, _%_, _/_, _≤_, _<_}
 use native.Mathlib.Nat.{add-zero, zero-add}
 use native.Mathlib.Decide.{ℕ-discrete}
 use native.Mathlib.Omega.{arith}
@@ -14,7 +14,7 @@ use Rattle.lists.proofs.Count.{length-count, getD-count}
 use Rattle.lists.proofs.Stores.{stores-out, stores-in, stores-join}
 use Rattle.slot.specs.Number.{vertexFrom}
 use Rattle.slot.specs.State.{stateOf, markOf}
-use Rattle.slot.specs.Slot.{Slot, emptySlot}
+use Rattle.slot.specs.Slot.{Link, Slot, emptySlot}
 use Rattle.slot.proofs.Laws.{stateOf-markOf, vertexFrom-words}
 use Rattle.table.specs.Table.{Table, at, put}
 use Rattle.table.specs.Words.{tableOf, slotFrom, firstWords, slotWords, linkWords}
@@ -125,6 +125,16 @@ module _ (ws : List ℕ) (n : ℕ) (s : Slot) (e : length ws ≡ 2819) (h : n < 
       (elsewhere 2816 (λ k q u. omega arith))
       (elsewhere 2817 (λ k q u. omega arith))
       (elsewhere 2818 (λ k q u. omega arith))
+
+-- the words of a link, stored one by one
+pub write-link-step :
+    (ws : List ℕ) (b : ℕ) (l : Link) (a c d e : ℕ)
+    → a ≡ l .through % 65536
+    → c ≡ l .through / 65536
+    → d ≡ l .peerThrough % 65536
+    → e ≡ l .peerThrough / 65536
+    → stores ws b 0 (l .touch ∷ l .peerTouch ∷ a ∷ c ∷ d ∷ e ∷ []) ≡ stores ws b 0 (linkWords l)
+write-link-step ws b l a c d e p q r s = rw (p, q, r, s)
 
 -- the words of a slot, stored as its first five, the mark m first, and then its link's six
 pub write-slot-step :

@@ -1,6 +1,8 @@
 use native.Mathlib.Omega.{arith}
 use lib.ListN.{length-set}
 use borrow.Author.Needs.{needs}
+use Rattle.slot.specs.Slot.{linkOf}
+use Rattle.table.proofs.WordsOfSlots.{write-link-step}
 use Rattle.table.proofs.write_link.Statement.{statement}
 use Rattle.table.proofs.write_link.Tie as tie
 
@@ -31,4 +33,4 @@ write-link-spec =
     (λ c. search needs)
     (λ c. simp length-set (omega arith))
     (λ c. search needs)
-    (λ c. cc))
+    (λ c. write-link-step (c .before .before .before .before .before .before .before .args .t .now) (c .before .before .before .before .before .before .before .args .b) (linkOf (c .before .before .before .before .before .before .before .args .link)) _ _ _ _ (c .before .before .before .low-word .ensures) (c .before .before .high-word .ensures) (c .before .low-word2 .ensures) (c .high-word2 .ensures)))
