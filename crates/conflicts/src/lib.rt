@@ -1,7 +1,8 @@
-// Conflict and virtual conflict on a table that is known to be sound: the refusals after the first, in 01's order, and then the
+// Conflict on a table that is known to be sound: the refusals after the first, in 01's order, and then the
 // rule; from a position of the lent bytes on. What is promised holds on any table, but it is 01's answer on a sound one only.
+mod resolving;
+
 use record::Conflict;
-use record::VirtualConflict;
 use refusal::Answer;
 use refusal::Refusal;
 use refusal::Verdict;
@@ -17,18 +18,6 @@ pub fn conflict(t: &mut Table, out: &mut [u8], pos: usize, c: Conflict) -> Answe
     }
     match judging::judge_conflict(t, c) {
         Verdict::Accepted => Answer::Done(resolving::resolve_conflict(t, out, pos, c)),
-        Verdict::Refused(refusal) => Answer::Refused(refusal),
-    }
-}
-
-pub fn virtual_conflict(t: &mut Table, out: &mut [u8], pos: usize, c: VirtualConflict) -> Answer
-    ensures { λ r. ⌜ Handled (Q.VirtualConflict c) pos (now (t .entry)) (now (out .entry)) r (now (t .exit)) (now (out .exit)) ⌝ }
-{
-    if outcome::room(out, pos) < 4096 {
-        return Answer::Refused(Refusal::NoCommandRoom);
-    }
-    match judging::judge_virtual_conflict(t, c) {
-        Verdict::Accepted => Answer::Done(resolving::resolve_virtual_conflict(t, out, pos, c)),
         Verdict::Refused(refusal) => Answer::Refused(refusal),
     }
 }

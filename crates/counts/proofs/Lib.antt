@@ -1,2 +1,1 @@
 pub mod WordsOfCounts
-pub mod Fresh

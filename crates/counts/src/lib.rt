@@ -1,8 +1,4 @@
 // begin and the two counts, in the table's last three words.
-mod making;
-
-pub use making::empty_table;
-pub use making::make;
 use table::Table;
 ghost use mathlib.Core.Path.{_≡_};
 ghost use Rattle.table.specs.Words.{tableOf};
@@ -27,7 +23,7 @@ pub fn count_blossoms(t: &Table) -> u16
     t[2818]
 }
 
-fn set_begin(t: &mut Table, n: u16)
+pub fn set_begin(t: &mut Table, n: u16)
     ensures { λ _. ⌜ tableOf (now (t .exit)) ≡ withBegin (tableOf (now (t .entry))) n ⌝ }
 {
     let words: &mut [u16] = t;

@@ -1,41 +1,19 @@
 // Taking a - blossom apart. P is the ring node that holds the blossom's touch, C the one that holds its child's peer touch.
-pub mod chain;
-
+use record::Expansion;
 use record::Record;
-use slot::Link;
+use refusal::Answer;
+use refusal::Refusal;
+use refusal::Verdict;
 use slot::Node;
 use slot::Slot;
 use table::Table;
 ghost use mathlib.Core.Path.{_≡_};
-ghost use Rattle.slot.specs.Slot.{linkOf, slotOf};
+ghost use Rattle.slot.specs.Slot.{slotOf};
 ghost use Rattle.table.specs.Words.{tableOf};
+ghost use Rattle.record.specs.declared.request.Request.the-variants as Q;
 ghost use Rattle.rules.specs.Act.{worldOf, run};
-ghost use Rattle.rules.specs.Expansion.{ringOpened, disposed, expandBlossom, expansion};
-
-// 01: "the nodes not attached, matched two by two in ring order; then those attached". The blossom's parent, child and link are
-// above, below and link.
-fn open_ring(
-    t: &mut Table,
-    out: &mut [u8],
-    pos: usize,
-    p: Node,
-    c: Node,
-    above: Node,
-    below: Node,
-    link: Link,
-) -> usize
-    ensures { λ r. ⌜ worldOf (now (t .exit)) (now (out .exit)) r ≡ run (worldOf (now (t .entry)) (now (out .entry)) pos) (ringOpened (p .0) (c .0) (above .0) (below .0) (linkOf link)) ⌝ }
-{
-    let d = chain::siblings_to(t, c, p);
-    if d % 2 == 0 {
-        let after_c = nodes::field::sibling(t, c);
-        let matched = chain::expand_blossom_match_chain(t, out, pos, p, after_c);
-        return attaching::attach_down(t, out, matched, c, below, above, link, p);
-    }
-    let after_p = nodes::field::sibling(t, p);
-    let matched = chain::expand_blossom_match_chain(t, out, pos, c, after_p);
-    attaching::attach_up(t, out, matched, p, above, link, below, c)
-}
+ghost use Rattle.rules.specs.Expansion.{disposed, expandBlossom, expansion};
+ghost use Rattle.outcome.specs.Handled.{Handled};
 
 // P takes the blossom's place in its parent's list, C gets the child, and the slot is emptied.
 fn dispose_blossom(t: &mut Table, b: Node, p: Node, c: Node, above: Node, below: Node)
@@ -62,12 +40,12 @@ fn expand_blossom(
     let below = s.first_child;
     let link = s.link;
     let expanded = writing::emit(out, pos, Record::Expand(b));
-    let end = open_ring(t, out, expanded, p, c, above, below, link);
+    let end = opening::open_ring(t, out, expanded, p, c, above, below, link);
     dispose_blossom(t, b, p, c, above, below);
     end
 }
 
-pub fn expand(t: &mut Table, out: &mut [u8], pos: usize, b: Node) -> usize
+fn resolve_expansion(t: &mut Table, out: &mut [u8], pos: usize, b: Node) -> usize
     ensures { λ r. ⌜ worldOf (now (t .exit)) (now (out .exit)) r ≡ run (worldOf (now (t .entry)) (now (out .entry)) pos) (expansion (b .0)) ⌝ }
 {
     let s = table::get(t, b);
@@ -79,4 +57,19 @@ pub fn expand(t: &mut Table, out: &mut [u8], pos: usize, b: Node) -> usize
     let p = nodes::climb::get_second_outer_blossom(t, touch);
     let c = nodes::climb::get_second_outer_blossom(t, peer_touch);
     expand_blossom(t, out, pos, b, s, p, c)
+}
+
+// An expansion on a table that is known to be sound: the refusals after the first, in 01's order, and then the rule; from a position
+// of the lent bytes on. What is promised holds on any table, but it is 01's answer on a sound one only.
+pub fn expand(t: &mut Table, out: &mut [u8], pos: usize, e: Expansion) -> Answer
+    ensures { λ r. ⌜ Handled (Q.Expansion e) pos (now (t .entry)) (now (out .entry)) r (now (t .exit)) (now (out .exit)) ⌝ }
+{
+    if outcome::room(out, pos) < 4096 {
+        return Answer::Refused(Refusal::NoCommandRoom);
+    }
+    let node = e.node;
+    match judging::judge_expansion(t, e) {
+        Verdict::Accepted => Answer::Done(resolve_expansion(t, out, pos, node)),
+        Verdict::Refused(refusal) => Answer::Refused(refusal),
+    }
 }

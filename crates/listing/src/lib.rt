@@ -1,41 +1,27 @@
-// The listing (01, "The listing"): the pair rule and the ring rule call one another down to defects. Every call goes with a
-// budget that falls, so the listing ends on any table.
+// The listing (01, "The listing"): slot after slot, each matched outer node.
 use nodes::Place;
 use nodes::field;
 use nodes::place;
-use record::Pair;
 use record::Record;
 use record::VirtualPair;
+use refusal::Answer;
+use refusal::Refusal;
 use slot::Link;
 use slot::Node;
 use table::Table;
 ghost use mathlib.Core.Path.{_≡_};
 ghost use Prim.Native.Nat.{_<_};
 ghost use Rattle.slot.specs.Slot.{linkOf};
-ghost use Rattle.table.specs.Words.{tableOf};
-ghost use Rattle.record.specs.Writing.{outOf, writeAll};
-ghost use Rattle.rules.specs.Listing.{pairEntry, virtualEntry, pairListed, levelsListed, ringListed, matchedListed, slotListed, listing};
 ghost use Rattle.table.specs.Table.{at};
+ghost use Rattle.table.specs.Words.{tableOf};
 ghost use Rattle.nodes.specs.declared.place.Place.the-variants.{Paired, Virtual};
+ghost use Rattle.record.specs.declared.request.Request.the-variants as Q;
+ghost use Rattle.record.specs.Writing.{outOf, writeAll};
+ghost use Rattle.rules.specs.Listing.{virtualEntry, matchedListed, slotListed, listing};
 ghost use Rattle.rules.specs.Refusals.{presentDefects, defectAt};
-ghost use Rattle.listing.specs.Inside.{insideListed};
+ghost use Rattle.outcome.specs.Handled.{Handled};
 
-// An entry's record: the touched defects, with their through numbers.
-fn pair_entry(link: Link) -> Record
-    ensures { λ r. ⌜ r ≡ pairEntry (linkOf link) ⌝ }
-{
-    let node = link.touch;
-    let peer = link.peer_touch;
-    let through = link.through;
-    let peer_through = link.peer_through;
-    Record::Pair(Pair {
-        node,
-        peer,
-        through,
-        peer_through,
-    })
-}
-
+// The record of a node matched to a virtual vertex.
 fn virtual_entry(link: Link) -> Record
     ensures { λ r. ⌜ r ≡ virtualEntry (linkOf link) ⌝ }
 {
@@ -49,81 +35,13 @@ fn virtual_entry(link: Link) -> Record
     })
 }
 
-// The pair rule: what is inside the node, then inside its peer, then the entry.
-fn list_pair(
-    t: &Table,
-    out: &mut [u8],
-    pos: usize,
-    n: Node,
-    peer: Node,
-    link: Link,
-    left: usize,
-) -> usize
-    ensures { λ r. ⌜ outOf (now (out .exit)) r ≡ writeAll (outOf (now (out .entry)) pos) (pairListed left (n .0) (peer .0) (linkOf link) (tableOf (now (t .entry)))) ⌝ }
-{
-    if left == 0 {
-        return pos;
-    }
-    let touch = link.touch;
-    let peer_touch = link.peer_touch;
-    let p = list_inside(t, out, pos, n, touch, left - 1);
-    let q = list_inside(t, out, p, peer, peer_touch, left - 1);
-    writing::emit(out, q, pair_entry(link))
-}
-
-// The pairs inside a node that is touched here, if it is a blossom.
-fn list_inside(t: &Table, out: &mut [u8], pos: usize, n: Node, touch: Node, left: usize) -> usize
-    ensures { λ r. ⌜ outOf (now (out .exit)) r ≡ writeAll (outOf (now (out .entry)) pos) (insideListed left (n .0) (touch .0) (tableOf (now (t .entry)))) ⌝ }
-{
-    if field::is_blossom(t, n) {
-        return list_levels(t, out, pos, n, touch, left);
-    }
-    pos
-}
-
-// At each level from the touched node upward, to the blossom b: the ring rule.
-fn list_levels(t: &Table, out: &mut [u8], pos: usize, b: Node, touched: Node, left: usize) -> usize
-    ensures { λ r. ⌜ outOf (now (out .exit)) r ≡ writeAll (outOf (now (out .entry)) pos) (levelsListed left (b .0) (touched .0) (tableOf (now (t .entry)))) ⌝ }
-{
-    if left == 0 {
-        return pos;
-    }
-    if field::is_outer(t, touched) {
-        return pos;
-    }
-    let first = field::sibling(t, touched);
-    let p = list_ring(t, out, pos, touched, first, left - 1);
-    let above = field::parent(t, touched);
-    if above.0 == b.0 {
-        return p;
-    }
-    list_levels(t, out, p, b, above, left - 1)
-}
-
-// The ring rule: the nodes from n on up to the touched one, two by two, each two by the pair rule.
-fn list_ring(t: &Table, out: &mut [u8], pos: usize, touched: Node, n: Node, left: usize) -> usize
-    ensures { λ r. ⌜ outOf (now (out .exit)) r ≡ writeAll (outOf (now (out .entry)) pos) (ringListed left (touched .0) (n .0) (tableOf (now (t .entry)))) ⌝ }
-{
-    if left == 0 {
-        return pos;
-    }
-    if n.0 == touched.0 {
-        return pos;
-    }
-    let peer = field::sibling(t, n);
-    let link = field::link(t, n);
-    let p = list_pair(t, out, pos, n, peer, link, left - 1);
-    let after = field::sibling(t, peer);
-    list_ring(t, out, p, touched, after, left - 1)
-}
-
 // A node matched to a peer is listed at the smaller number of the two.
 fn list_paired(t: &Table, out: &mut [u8], pos: usize, n: Node, peer: Node) -> usize
     ensures { λ r. ⌜ outOf (now (out .exit)) r ≡ writeAll (outOf (now (out .entry)) pos) (matchedListed (Paired peer) (n .0) (at (tableOf (now (t .entry))) (n .0)) (tableOf (now (t .entry)))) ⌝ }
 {
     if n.0 < peer.0 {
         let link = field::link(t, n);
-        return list_pair(t, out, pos, n, peer, link, 256);
+        return pair_listing::list_pair(t, out, pos, n, peer, link, 256);
     }
     pos
 }
@@ -133,7 +51,7 @@ fn list_virtual(t: &Table, out: &mut [u8], pos: usize, n: Node) -> usize
 {
     let link = field::link(t, n);
     let touch = link.touch;
-    let p = list_inside(t, out, pos, n, touch, 256);
+    let p = pair_listing::list_inside(t, out, pos, n, touch, 256);
     writing::emit(out, p, virtual_entry(link))
 }
 
@@ -159,7 +77,7 @@ fn narrow(i: usize) -> u16
 }
 
 // The whole listing, slot after slot.
-pub fn list_all(t: &Table, out: &mut [u8], pos: usize) -> usize
+fn list_all(t: &Table, out: &mut [u8], pos: usize) -> usize
     ensures { λ r. ⌜ outOf (now (out .exit)) r ≡ writeAll (outOf (now (out .entry)) pos) (listing (tableOf (now (t .entry)))) ⌝ }
 {
     let mut p = pos;
@@ -173,7 +91,7 @@ pub fn list_all(t: &Table, out: &mut [u8], pos: usize) -> usize
 }
 
 // The present defects, for which a listing asks room.
-pub fn present_defects(t: &Table) -> usize
+fn present_defects(t: &Table) -> usize
     ensures { λ r. ⌜ r ≡ presentDefects (tableOf (now (t .entry))) ⌝ }
 {
     let mut found: usize = 0;
@@ -197,4 +115,16 @@ fn defect_at(t: &Table, n: Node) -> usize
         return 1;
     }
     0
+}
+
+// The listing on a table that is known to be sound: refused without room for it; from a position of the lent bytes on. What is
+// promised holds on any table, but it is 01's answer on a sound one only.
+pub fn list(t: &Table, out: &mut [u8], pos: usize) -> Answer
+    ensures { λ r. ⌜ Handled Q.List pos (now (t .entry)) (now (out .entry)) r (now (t .entry)) (now (out .exit)) ⌝ }
+{
+    let needed = 16 * present_defects(t);
+    if outcome::room(out, pos) < needed {
+        return Answer::Refused(Refusal::NoListingRoom);
+    }
+    Answer::Done(list_all(t, out, pos))
 }

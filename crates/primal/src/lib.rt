@@ -1,5 +1,7 @@
 // The public calls of document 01, and nothing else. None asks anything of its caller: any table, request, tape, buffer and
 // position may be passed.
+mod serving;
+
 use record::Conflict;
 use record::Expansion;
 use record::Reading;
@@ -8,6 +10,7 @@ use record::Request;
 use record::VirtualConflict;
 use refusal::Answer;
 use refusal::Refusal;
+use stopping::Next;
 use table::Table;
 ghost use mathlib.Core.Path.{_≡_};
 ghost use Rattle.table.specs.Words.{tableOf};
@@ -17,14 +20,14 @@ ghost use Rattle.record.specs.Records.{requestBytes, answerBytes};
 ghost use Rattle.record.specs.Reading as reading;
 ghost use Rattle.record.specs.Writing.{outOf, wroteOf, wrote};
 ghost use Rattle.rules.specs.Sound.{sound};
-ghost use Rattle.running.specs.Tape.{Tape};
 ghost use Rattle.primal.specs.Call.{Call, Reset};
+ghost use Rattle.primal.specs.Tape.{Tape};
 
 // Making: a fresh table with this begin in the lent words, or refusal 13.
 pub fn make(t: &mut Table, begin: u16) -> Answer
     ensures { λ r. ⌜ Made (now (t .entry)) begin r (now (t .exit)) ⌝ }
 {
-    counts::make(t, begin)
+    making::make(t, begin)
 }
 
 // Reset: every slot empty and both counts 0, or refusal 1.
@@ -34,7 +37,7 @@ pub fn reset(t: &mut Table) -> Answer
     if !sound::is_sound(t) {
         return Answer::Refused(Refusal::NotSound);
     }
-    counts::empty_table(t);
+    making::empty_table(t);
     Answer::Done(0)
 }
 
@@ -61,7 +64,7 @@ pub fn virtual_conflict(t: &mut Table, out: &mut [u8], request: VirtualConflict)
     if !sound::is_sound(t) {
         return Answer::Refused(Refusal::NotSound);
     }
-    conflicts::virtual_conflict(t, out, 0, request)
+    virtual_conflicts::virtual_conflict(t, out, 0, request)
 }
 
 pub fn expand(t: &mut Table, out: &mut [u8], request: Expansion) -> Answer
@@ -70,7 +73,7 @@ pub fn expand(t: &mut Table, out: &mut [u8], request: Expansion) -> Answer
     if !sound::is_sound(t) {
         return Answer::Refused(Refusal::NotSound);
     }
-    handling::expand(t, out, 0, request)
+    expansion::expand(t, out, 0, request)
 }
 
 // The listing. Done gives the bytes of its entries.
@@ -80,7 +83,7 @@ pub fn list(t: &Table, out: &mut [u8]) -> Answer
     if !sound::is_sound(t) {
         return Answer::Refused(Refusal::NotSound);
     }
-    handling::list(t, out, 0)
+    listing::list(t, out, 0)
 }
 
 // The request that stands first on a tape and the bytes that its record fills, or refusal 12.
@@ -104,7 +107,8 @@ pub fn write_answer(out: &mut [u8], pos: usize, answer: Record) -> Answer
 }
 
 // The run: handles the tape's records, at most so many, and returns the tape's unread rest. The stop (0 to 3), the refusal (0, or
-// 1 on a table that is not sound), the records handled and the bytes written go into the numbers lent.
+// 1 on a table that is not sound), the records handled and the bytes written go into the numbers lent. The table is checked once:
+// each request leaves a sound table sound.
 pub fn run<'a>(
     t: &mut Table,
     tape: &'a [u8],
@@ -117,5 +121,32 @@ pub fn run<'a>(
 ) -> &'a [u8]
     ensures { λ r. ⌜ Tape allowance (now (t .entry)) (now (out .entry)) (now (tape .entry)) (now (stop .exit)) (now (refusal .exit)) (now (handled .exit)) (now (written .exit)) (now r) (now (t .exit)) (now (out .exit)) ⌝ }
 {
-    running::run(t, tape, out, allowance, stop, refusal, handled, written)
+    if !sound::is_sound(t) {
+        *stop = 0;
+        *refusal = 1;
+        *handled = 0;
+        *written = 0;
+        return tape;
+    }
+    let mut rest = tape;
+    let mut left = allowance;
+    let mut pos: usize = 0;
+    let mut count: u32 = 0;
+    loop {
+        match stopping::what_next(rest, left, outcome::room(out, pos)) {
+            Next::Stop(number) => {
+                *stop = number;
+                *refusal = 0;
+                *handled = count;
+                *written = pos;
+                return rest;
+            }
+            Next::Record(request, size) => {
+                pos = serving::serve(t, out, pos, request);
+                rest = &rest[size..];
+                left -= 1;
+                count += 1;
+            }
+        }
+    }
 }

@@ -20,7 +20,7 @@ use Rattle.rules.specs.Act.{Act, World, worldOf, run, change}
 use Rattle.rules.specs.Calls.{actOf, verdict}
 use Rattle.rules.specs.Run.{Ran, unsound, ran, runTape}
 use Rattle.outcome.specs.Handled.{Outcome}
-use Rattle.running.specs.Tape.{HandsOut, Tape}
+use Rattle.primal.specs.Tape.{HandsOut, Tape}
 use Rattle.primal.specs.Call.{Call, Reset}
 use Rattle.numbered.specs.Told.{Told}
 use Rattle.primal_c.specs.Numbered.{Numbered, Called, WasReset, WasMade, RanTape, Run}

@@ -22,7 +22,7 @@ use Rattle.rules.specs.Sound.{sound}
 use Rattle.rules.specs.Calls.{actOf, verdict, answered}
 use Rattle.kept.proofs.Kept.{answered-keeps-sound}
 use Rattle.outcome.specs.Handled.{Outcome}
-use Rattle.handling.proofs.Verdicts.{unsound-verdict}
+use Rattle.outcome.proofs.Verdicts.{unsound-verdict}
 use Rattle.primal.specs.Call.{Call}
 
 -- answered, table and bytes

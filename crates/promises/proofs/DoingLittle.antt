@@ -21,7 +21,7 @@ use Rattle.record.specs.Records.{requestBytes, answerBytes}
 use Rattle.record.specs.Reading as reading
 use Rattle.record.specs.Writing.{outOf, placed, written, writeAll}
 use Rattle.rules.specs.Run.{Ran, unsound, ran, runTape}
-use Rattle.running.specs.Tape.{HandsOut, Tape}
+use Rattle.primal.specs.Tape.{HandsOut, Tape}
 use Rattle.rules.specs.Act.{World, worldOf}
 use Rattle.rules.specs.Calls.{actOf, verdict}
 use Rattle.rules.proofs.Script.{join, all-rules}

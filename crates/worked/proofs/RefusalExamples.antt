@@ -11,7 +11,7 @@ use Rattle.record.specs.declared.request.Request.the-variants as Q
 use Rattle.rules.specs.Sound.{sound}
 use Rattle.rules.specs.Calls.{verdict, verdictNumber}
 use Rattle.outcome.specs.Handled.{laterVerdict}
-use Rattle.handling.proofs.Verdicts.{sound-verdict}
+use Rattle.outcome.proofs.Verdicts.{sound-verdict}
 use Rattle.rules.proofs.Script.{meet, join, border, open-up, after, all-rules}
 
 -- the number that a request is given on the table after some others, with so much room

@@ -1,7 +1,7 @@
 use Rattle.primal.proofs.Steps.{refused-by}
 use Rattle.outcome.proofs.Outcomes.{accepted-by}
-use Rattle.handling.proofs.Steps.{reset-accepted, reset-world}
-use Rattle.handling.proofs.Verdicts.{unsound-verdict, sound-verdict}
+use Rattle.primal.proofs.Resets.{reset-accepted, reset-world}
+use Rattle.outcome.proofs.Verdicts.{unsound-verdict, sound-verdict}
 use borrow.Author.Tests.{not-true, not-false}
 use mathlib.Core.Path.{sym, _∙_}
 use borrow.Author.Needs.{needs}

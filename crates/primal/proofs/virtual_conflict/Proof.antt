@@ -1,6 +1,6 @@
 use native.Mathlib.Nat.{sub-zero}
 use Rattle.primal.proofs.Steps.{refused-by, same-outcome}
-use Rattle.handling.proofs.Verdicts.{unsound-verdict, sound-verdict}
+use Rattle.outcome.proofs.Verdicts.{unsound-verdict, sound-verdict}
 use borrow.Author.Tests.{not-true, not-false}
 use mathlib.Core.Path.{sym, _∙_}
 use borrow.Author.Needs.{needs}

@@ -1,0 +1,94 @@
+-- Each function, one step at a time: its premises in the code's order, its own promise as the conclusion.
+use mathlib.Core.Path.{_≡_, sym, _∙_}
+use mathlib.Core.Bool.{true, false}
+use Prim.Native.Nat.{ℕ, _+_, _≤_, _<_}
+use borrow.Author.Tests.{le-leb, lt-leb}
+use Rattle.slot.specs.Slot.{Link}
+use Rattle.table.specs.Table.{Table, at}
+use Rattle.nodes.specs.declared.place.Place.{Place}
+use Rattle.nodes.specs.Place.{place}
+use Rattle.record.specs.declared.request.Conflict.{Conflict}
+use Rattle.record.specs.Writing.{Out}
+use Rattle.rules.specs.Act.{Act, World, run, _then_, skip, choose}
+use Rattle.rules.specs.Trees.{sameTree, meeting, loaded}
+use Rattle.rules.specs.Matching.{temporaryMatch, augmentWholeTree}
+use Rattle.rules.specs.Blossom.{lacksBlossomSlot, createBlossom}
+use Rattle.rules.specs.Conflict.{conflictLink, blossomInTree, treesMeet, rowOf, resolved, conflict}
+use Rattle.rules.proofs.Runs.{world, runs, run-then, run-look, run-read, run-change, run-skip, run-yes, run-no}
+use Rattle.trees.specs.Meeting.{meetByDepths}
+use Rattle.table.proofs.Laws.{Full}
+use Rattle.trees.proofs.Meets.{meet-by-depths}
+use Rattle.conflicts.specs.ByDepths.{blossomByDepths}
+
+-- two acts, one after the other
+pub two-steps : (w w₁ w₂ : World) (f g : Act) → w₁ ≡ run w f → w₂ ≡ run w₁ g → w₂ ≡ run w (f then g)
+two-steps w w₁ w₂ f g p q = q ∙ rw (p, run-then)
+
+-- nothing
+pub no-step : (w : World) → w ≡ run w skip
+no-step w = sym (run-skip w)
+
+module _ (w : World) (x y : ℕ) (l : Link) where
+  pub blossom-full :
+      (b c : ℕ)
+      → b ≡ w .table .begin
+      → c ≡ w .table .blossoms
+      → 256 ≤ b + c
+      → w ≡ run w (blossomByDepths x y l)
+  unfolding blossomByDepths
+  blossom-full b c e f h =
+      let h′ : 256 ≤ w .table .begin + w .table .blossoms = rw (e, f) at h in
+      sym (run-read w _ ∙ run-yes w (lacksBlossomSlot (w .table)) skip _ (le-leb 256 (w .table .begin + w .table .blossoms) h′) ∙ run-skip w)
+
+  pub blossom-step :
+      (w₁ : World) (b c m : ℕ)
+      → b ≡ w .table .begin
+      → c ≡ w .table .blossoms
+      → b + c < 256
+      → m ≡ meetByDepths (w .table) x y
+      → w₁ ≡ run w (createBlossom (b + c) (c + 1) m x y l)
+      → w₁ ≡ run w (blossomByDepths x y l)
+  unfolding blossomByDepths
+  blossom-step w₁ b c m e f h g p =
+      let h′ : w .table .begin + w .table .blossoms < 256 = rw (e, f) at h in
+      (rw (e, f, g) at p)
+      ∙ sym (run-read w _ ∙ run-no w (lacksBlossomSlot (w .table)) skip _ (lt-leb 256 (w .table .begin + w .table .blossoms) h′))
+
+  pub one-tree :
+      (w₁ : World)
+      → Full (w .table)
+      → sameTree (w .table) x y ≡ true
+      → w₁ ≡ run w (blossomByDepths x y l)
+      → w₁ ≡ run w (treesMeet x y l)
+  unfolding treesMeet blossomInTree blossomByDepths
+  one-tree w₁ f s p =
+      p
+      ∙ rw (run-read, run-read, run-yes w (sameTree (w .table) x y) (blossomInTree x y l) _ s, run-read, meet-by-depths (w .table) x y f s)
+
+  pub two-trees :
+      (w₁ w₂ w₃ : World)
+      → sameTree (w .table) x y ≡ false
+      → w₁ ≡ run w (augmentWholeTree x)
+      → w₂ ≡ run w₁ (augmentWholeTree y)
+      → w₃ ≡ run w₂ (temporaryMatch x l y)
+      → w₃ ≡ run w (treesMeet x y l)
+  unfolding treesMeet
+  two-trees w₁ w₂ w₃ s p q r =
+      r ∙ rw (q, p) (sym (run-read w _ ∙ run-no w (sameTree (w .table) x y) (blossomInTree x y l) _ s ∙ rw (run-then, run-then)))
+
+  pub resolved-by :
+      (w₁ : World) (p : Place)
+      → p ≡ place (at (w .table) x)
+      → w₁ ≡ run w (rowOf p (place (at (w .table) y)) x y l)
+      → w₁ ≡ run w (resolved x y l)
+  unfolding resolved
+  resolved-by w₁ p e q = q ∙ rw (e, run-look, run-look)
+
+pub conflict-step :
+    (t t₁ t₂ : Table) (o : Out) (w : World) (c : Conflict)
+    → t₁ ≡ loaded (c .«node_1» .0) t
+    → t₂ ≡ loaded (c .«node_2» .0) t₁
+    → w ≡ run (world t₂ o) (resolved (c .«node_1» .0) (c .«node_2» .0) (conflictLink c))
+    → w ≡ run (world t o) (conflict c)
+unfolding conflict
+conflict-step t t₁ t₂ o w c p q r = r ∙ rw (q, p) (simp runs)

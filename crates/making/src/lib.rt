@@ -1,0 +1,52 @@
+// Making a table, and emptying one: the inner part of reset.
+use refusal::Answer;
+use refusal::Refusal;
+use slot::Node;
+use table::Table;
+ghost use mathlib.Core.Path.{_≡_};
+ghost use Prim.Native.Nat.{_<_};
+ghost use Rattle.table.specs.Words.{tableOf};
+ghost use Rattle.counts.specs.Making.{emptied, cleared, Made};
+
+fn narrow(i: usize) -> u16
+    requires { ⌜ i < 65536 ⌝ }
+    ensures { λ r. ⌜ r ≡ i ⌝ }
+{
+    i as u16
+}
+
+// Empties every slot.
+fn clear_slots(t: &mut Table)
+    ensures { λ _. ⌜ tableOf (now (t .exit)) ≡ cleared 256 (tableOf (now (t .entry))) ⌝ }
+{
+    let mut i: usize = 0;
+    while i < 256 {
+        let n = narrow(i);
+        table::store(t, Node(n), slot::value::empty_slot());
+        i += 1;
+    }
+}
+
+// Empties all slots and zeroes both counts; begin stays.
+pub fn empty_table(t: &mut Table)
+    ensures { λ _. ⌜ tableOf (now (t .exit)) ≡ emptied (tableOf (now (t .entry))) ⌝ }
+{
+    clear_slots(t);
+    counts::set_count_defects(t, 0);
+    counts::set_count_blossoms(t, 0);
+}
+
+// A fresh table with this begin in the lent words, or refusal 13 and the words as they were.
+pub fn make(t: &mut Table, begin: u16) -> Answer
+    ensures { λ r. ⌜ Made (now (t .entry)) begin r (now (t .exit)) ⌝ }
+{
+    if begin < 1 {
+        return Answer::Refused(Refusal::BadBegin);
+    }
+    if 256 < begin {
+        return Answer::Refused(Refusal::BadBegin);
+    }
+    counts::set_begin(t, begin);
+    empty_table(t);
+    Answer::Done(0)
+}

@@ -1,0 +1,93 @@
+-- A request served: its answer, and then its end record.
+use mathlib.Core.Path.{_≡_, sym, ap, _∙_}
+use mathlib.Core.Bool.{true}
+use mathlib.Core.List.{List, [], _∷_, _++_}
+use Prim.Native.Nat.{ℕ, _-_}
+use lib.ListN.{length}
+use Rattle.table.specs.Words.{tableOf}
+use Rattle.refusal.specs.declared.Answer.{Answer}
+use Rattle.refusal.specs.declared.Answer.the-variants as A
+use Rattle.refusal.specs.declared.Verdict.{Verdict}
+use Rattle.refusal.specs.declared.Verdict.the-variants as W
+use Rattle.refusal.specs.Refusal.{answerNumber, answerWritten}
+use Rattle.record.specs.declared.request.Request.{Request}
+use Rattle.record.specs.declared.answer.Record.the-variants as R
+use Rattle.record.specs.Records.{answerBytes}
+use Rattle.record.specs.Writing.{Out, outOf, written, writeAll}
+use Rattle.rules.specs.Act.{Act, World, worldOf, run, skip}
+use Rattle.rules.specs.Calls.{actOf, actBy, verdict, verdictNumber, answered}
+use Rattle.rules.specs.Run.{served}
+use Rattle.table.proofs.WordsOfSlots.{slots-length}
+use Rattle.table.proofs.Laws.{Full}
+use Rattle.sound_facts.proofs.Reflect.{test-true}
+use Rattle.kept.proofs.Kept.{served-keeps-sound}
+use Rattle.record.proofs.Written.{writeAll-append}
+use Rattle.rules.proofs.Runs.{world, run-skip}
+use Rattle.rules.specs.Sound.{sound}
+use Rattle.outcome.specs.Handled.{Outcome, laterVerdict}
+use Rattle.outcome.proofs.Verdicts.{sound-verdict}
+use Rattle.primal.specs.Tape.{posAfter, Serves}
+
+-- an act, and one record more
+abbrev pub ended : World → Act → ℕ → World
+ended w act n = record { table = act (w .table) .table; out = writeAll (w .out) (act (w .table) .said ++ R.End n ∷ []) }
+
+ended-run : (w : World) (act : Act) (n : ℕ) → ended w act n ≡ world (run w act .table) (written (run w act .out) (answerBytes (R.End n)))
+unfolding run writeAll
+ended-run w act n = rw writeAll-append
+
+served-by : (q : Request) (words bytes : List ℕ) (pos : ℕ) (v : Verdict) → verdict q (tableOf words) (length bytes - pos) ≡ v → served q (worldOf words bytes pos) ≡ ended (worldOf words bytes pos) (actBy v q) (verdictNumber v)
+unfolding served answered
+served-by q words bytes pos v e = rw e
+
+module _ (q : Request) (pos : ℕ) (words bytes words′ bytes′ : List ℕ) (a : Answer) (o : Out) where
+  by-verdict :
+      (v : Verdict)
+      → verdict q (tableOf words) (length bytes - pos) ≡ v
+      → Outcome v (actOf q) pos words bytes a words′ bytes′
+      → o ≡ written (outOf bytes′ (posAfter pos a)) (answerBytes (R.End (answerNumber a)))
+      → world (tableOf words′) o ≡ served q (worldOf words bytes pos)
+  by-verdict W.Accepted e h p =
+      let w : World = worldOf words bytes pos in
+      let d : a ≡ A.Done (answerWritten a) = h .0 in
+      let p′ : o ≡ written (outOf bytes′ (answerWritten a)) (answerBytes (R.End 0)) = p ∙ ap (λ (x : Answer). written (outOf bytes′ (posAfter pos x)) (answerBytes (R.End (answerNumber x)))) d in
+      let r : World = worldOf words′ bytes′ (answerWritten a) in
+      let g : world (tableOf words′) o ≡ world (r .table) (written (r .out) (answerBytes (R.End 0))) = ap (λ (x : Out). world (tableOf words′) x) p′ in
+      g
+      ∙ ap (λ (x : World). world (x .table) (written (x .out) (answerBytes (R.End 0)))) (h .1)
+      ∙ sym (ended-run w (actOf q) 0)
+      ∙ sym (served-by q words bytes pos W.Accepted e)
+  by-verdict (W.Refused n) e h p =
+      let w : World = worldOf words bytes pos in
+      let p′ : o ≡ written (outOf bytes pos) (answerBytes (R.End (answerNumber (A.Refused n)))) = p ∙ rw (h .0, h .2) in
+      rw (h .1, p′)
+      (sym (served-by q words bytes pos (W.Refused n) e ∙ ended-run w skip (verdictNumber (W.Refused n)) ∙ rw run-skip))
+
+pub served-step :
+    (q : Request) (pos p : ℕ) (words bytes words′ bytes′ bytes″ : List ℕ) (a : Answer)
+    → Outcome (laterVerdict q (tableOf words) (length bytes - pos)) (actOf q) pos words bytes a words′ bytes′
+    → outOf bytes″ p ≡ written (outOf bytes′ (posAfter pos a)) (answerBytes (R.End (answerNumber a)))
+    → Serves q pos words bytes p words′ bytes″
+unfolding Serves
+served-step q pos p words bytes words′ bytes′ bytes″ a h e s =
+    by-verdict q pos words bytes words′ bytes′ a (outOf bytes″ p) (laterVerdict q (tableOf words) (length bytes - pos)) (sound-verdict q (tableOf words) (length bytes - pos) s) h e
+
+pub served-world :
+    (q : Request) (pos p : ℕ) (words bytes words′ bytes′ : List ℕ)
+    → Serves q pos words bytes p words′ bytes′
+    → sound (tableOf words) ≡ true
+    → worldOf words′ bytes′ p ≡ served q (worldOf words bytes pos)
+unfolding Serves
+served-world q pos p words bytes words′ bytes′ h s = h s
+
+served-keeps : (q : Request) (w : World) → Full (w .table) → sound (w .table) ≡ true → sound (served q w .table) ≡ true
+served-keeps q w full s = test-true (sound (served q w .table)) (served-keeps-sound q w full (rw s tt))
+
+-- each request leaves a sound table sound
+pub served-sound :
+    (q : Request) (pos p : ℕ) (words bytes words′ bytes′ : List ℕ)
+    → Serves q pos words bytes p words′ bytes′
+    → sound (tableOf words) ≡ true
+    → sound (tableOf words′) ≡ true
+served-sound q pos p words bytes words′ bytes′ h s =
+    ap (λ (w : World). sound (w .table)) (served-world q pos p words bytes words′ bytes′ h s) ∙ served-keeps q (worldOf words bytes pos) (slots-length words) s
