@@ -2,8 +2,8 @@
 use mathlib.Core.Path.{_≡_, sym, _∙_}
 use mathlib.Core.List.{List}
 use mathlib.Core.Bool.{Bool, true, false, _&&_, not}
-use Prim.Native.Nat.{ℕ}
-use lib.Dec.{eqb}
+use Prim.Native.Nat.{ℕ, _%_}
+use lib.Dec.{eqb, leb}
 use borrow.Author.Tests.{eq-eqb, ne-eqb}
 use Rattle.slot.specs.Number.{none}
 use Rattle.table.specs.Table.{Table, at}
@@ -17,6 +17,9 @@ use Rattle.sound_rings.specs.Rings.{hasRing, isRingNode, isOddRing, ring
 
 pub has-ring-step : (t : Table) (b : ℕ) (blossom given r : Bool) → blossom ≡ isBlossom t b → given ≡ present t b → r ≡ (blossom && given) → r ≡ hasRing t b
 has-ring-step t b blossom given r e f g = g ∙ rw (e, f)
+
+pub odd-ring-step : (c : ℕ) (enough r : Bool) → enough ≡ (eqb (c % 2) 1 && leb 3 c) → r ≡ (enough && not (eqb c none)) → r ≡ isOddRing c
+odd-ring-step c enough r e f = f ∙ rw e
 
 pub ring-node-step :
     (t : Table) (b n above after : ℕ) (inside owned r : Bool)
