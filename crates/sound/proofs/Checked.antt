@@ -30,13 +30,17 @@ use Rattle.sound_facts.proofs.ChildLaws.{above-outer}
 use Rattle.sound_facts.proofs.Insides.{blossom↔}
 use Rattle.sound_facts.proofs.SizesAndPointers.{sizes↔}
 use Rattle.sound_facts.proofs.SoundParts.{sound→rule, sound→core, sound→rest}
-use Rattle.sound_slots.specs.Pass.{allFrom}
-use Rattle.sound_slots.specs.OneSlot.{slotHolds, isVacant, vacantOf, ringPlaced, ruleOf}
-use Rattle.sound_walks.specs.Marks.{Judged, listStep, ringStep, sweep, hasRing, marked}
-use Rattle.sound_walks.specs.Depths.{wayStep}
-use Rattle.sound_walks.proofs.Truth.{lie, bool-ext, and-left, and-right, and-both, when, range-to, range-from}
-use Rattle.sound_walks.proofs.Paths as walks
-use Rattle.sound_walks.proofs.WaysEnd.{wayFine, way-skips, ways-right, way-ringed, way-listed, way-reaches, way-from}
+use Rattle.sound_marks.specs.Pass.{allFrom}
+use Rattle.sound_links.specs.Links.{ringPlaced}
+use Rattle.sound_slots.specs.OneSlot.{slotHolds, isVacant, vacantOf, ruleOf}
+use Rattle.sound_marks.specs.Marks.{Judged, sweep, marked}
+use Rattle.sound_children.specs.Lists.{listStep}
+use Rattle.sound_rings.specs.Rings.{ringStep, hasRing}
+use Rattle.sound_ways.specs.Depths.{wayStep}
+use Rattle.sound_marks.proofs.Truth.{lie, bool-ext, and-left, and-right, and-both, when, range-to, range-from}
+use Rattle.sound_children.proofs.Paths as list-walks
+use Rattle.sound_rings.proofs.Paths as ring-walks
+use Rattle.sound_ways.proofs.WaysEnd.{wayFine, way-skips, ways-right, way-ringed, way-listed, way-reaches, way-from}
 use Rattle.sound.specs.Given.{unseen, eachHolds, givenPass, blossomPass, pathsHold}
 use Rattle.sound.proofs.SlotKinds.{undamaged, inner-child, inner-childless}
 use Rattle.sound.proofs.SlotsSound.{all-sound}
@@ -181,14 +185,14 @@ module _ (ws : List ℕ) where
       lists-whole : givenPass (listStep tab) d b e ≡ sweep (listStep tab) 256 0 unseen
       lists-whole =
           given-whole (listStep tab) d b e few (omega arith) end-below
-          (λ h p q l. walks.list-skips tab bare h l (rw (after h p q)))
-          (λ h p q l. walks.list-skips tab bare h l (rw (between h p q)))
+          (λ h p q l. list-walks.list-skips tab bare h l (rw (after h p q)))
+          (λ h p q l. list-walks.list-skips tab bare h l (rw (between h p q)))
 
       rings-whole : blossomPass (ringStep tab) b e ≡ sweep (ringStep tab) 256 0 unseen
       rings-whole =
           blossoms-whole (ringStep tab) d b e few (omega arith) end-below
-          (λ h p q l. walks.ring-skips tab h l (rw (after h p q, and-false)))
-          (λ h q l. walks.ring-skips tab h l (rw (lt-leb b h q)))
+          (λ h p q l. ring-walks.ring-skips tab h l (rw (after h p q, and-false)))
+          (λ h q l. ring-walks.ring-skips tab h l (rw (lt-leb b h q)))
 
       ways-whole : (l m : List ℕ) → givenPass (wayStep tab l m) d b e ≡ sweep (wayStep tab l m) 256 0 unseen
       ways-whole l m =
@@ -237,7 +241,7 @@ module _ (ws : List ℕ) where
             go : Dec (n < 256) → T (s5 tab n)
             go (yes q) =
                 true-test (s5 tab n)
-                (walks.lists-right tab bare (found .0)
+                (list-walks.lists-right tab bare (found .0)
                 (λ j r o u. way-listed tab (listed .seen) (ringed .seen) j (fine-at j r) (some-parent j (outer-present (at tab (up tab j) .state) (true-test (outer tab (up tab j)) u))) (outer-only j o))
                 n q)
             go (no q) = simp (at-out tab n full (omega arith)) tt
@@ -251,13 +255,13 @@ module _ (ws : List ℕ) where
         rings n p =
             let o : hasRing tab n ≡ true = test-true (hasRing tab n) (blossom↔ tab n .1 p) in
             true-test (ringHolds tab n)
-            (when (hasRing tab n) (ringHolds tab n) (walks.rings-right tab (found .1) (λ j q i _. inner-marked j q i) n (present-below tab full n (p .there))) o)
+            (when (hasRing tab n) (ringHolds tab n) (ring-walks.rings-right tab (found .1) (λ j q i _. inner-marked j q i) n (present-below tab full n (p .there))) o)
 
         owner : (n : ℕ) → T (inner tab n) → up tab n ≢ none → PresentBlossom tab (up tab n)
         owner n i _ =
             let q = present-below tab full n (inner-present (at tab n .state) i) in
             blossom↔ tab (up tab n) .0
-            (true-test (hasRing tab (up tab n)) (walks.ring-owner tab (found .1) n q (inner-marked n q (test-true (inner tab n) i))))
+            (true-test (hasRing tab (up tab n)) (ring-walks.ring-owner tab (found .1) n q (inner-marked n q (test-true (inner tab n) i))))
 
         ways : (n : ℕ) → T (outer tab n) → T (ends 257 (up tab) n)
         ways n o =
@@ -286,7 +290,7 @@ module _ (ws : List ℕ) where
         owned : (n : ℕ) → n < 256 → inner tab n ≡ true → marked (ringed .seen) n ≡ true
         owned n q i =
             let p = sound→rest tab full s .inners n (true-test (inner tab n) i) .parent in
-            walks.right-ringed tab sixth n q (present-below tab full (up tab n) (p .there)) i (test-true (hasRing tab (up tab n)) (blossom↔ tab (up tab n) .1 p))
+            ring-walks.right-ringed tab sixth n q (present-below tab full (up tab n) (p .there)) i (test-true (hasRing tab (up tab n)) (blossom↔ tab (up tab n) .1 p))
 
         outer-there : (n : ℕ) → isNone (up tab n) ≡ false → inner tab n ≡ false → T (outer tab n)
         outer-there n u i = go (at tab n .state) refl i
@@ -303,7 +307,7 @@ module _ (ws : List ℕ) where
         on-list n q u i =
             let o = outer-there n u i in
             let a : T (outer tab (up tab n)) = above-outer tab full (sound→core tab full s) n o (eqb-false (up tab n) none u) in (
-              walks.right-listed tab bare fifth n q (present-below tab full (up tab n) (outer-present (at tab (up tab n) .state) a)) (test-true (outer tab n) o) (test-true (outer tab (up tab n)) a),
+              list-walks.right-listed tab bare fifth n q (present-below tab full (up tab n) (outer-present (at tab (up tab n) .state) a)) (test-true (outer tab n) o) (test-true (outer tab (up tab n)) a),
               seventh n q o,
             )
 
@@ -311,7 +315,7 @@ module _ (ws : List ℕ) where
         sound-paths =
             paths-all
             ∙ and-both (listed .ok && ringed .ok) (allFrom fine 256 0)
-            (and-both (listed .ok) (ringed .ok) (walks.right-lists tab bare fifth) (walks.right-rings tab sixth))
+            (and-both (listed .ok) (ringed .ok) (list-walks.right-lists tab bare fifth) (ring-walks.right-rings tab sixth))
             (range-from fine 256 0
             (λ n _ q. way-from tab (listed .seen) (ringed .seen) n (λ _ i. owned n (omega arith) i) (λ u i. on-list n (omega arith) u i)))
 

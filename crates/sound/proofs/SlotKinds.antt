@@ -24,7 +24,9 @@ use Rattle.sound_facts.proofs.Reflect.{tests, test-case, and→, →and, or→,
 use Rattle.sound_facts.proofs.ReflectSlots.{stay↔, grow↔, shrink↔, inner↔, not-present↔, sameLink↔, grow-shrink}
 use Rattle.sound_facts.proofs.Past.{present-some}
 use Rattle.sound_facts.proofs.KindLaws.{far-end-paired, far-end-tree, far-end-inner}
-use Rattle.sound_slots.specs.OneSlot.{isThrough, isFarTouch, touchesHold, ringPlaced, innerHolds, pointsBack, pairHolds, stayHolds, growHolds, shrinkHolds, ruleOf, slotHolds}
+use Rattle.sound_links.specs.Links.{isThrough, isFarTouch, touchesHold, ringPlaced, pointsBack, pairHolds}
+use Rattle.sound_states.specs.States.{innerHolds, stayHolds, growHolds, shrinkHolds}
+use Rattle.sound_slots.specs.OneSlot.{ruleOf, slotHolds}
 
 -- a slot that is given out and judged, or an empty one
 module _ (t : Table) (full : Full t) (sizes : Sizes t)

@@ -22,7 +22,9 @@ use Rattle.sound_facts.proofs.ReflectSlots.{stay↔, grow↔, shrink↔, sameLi
 use Rattle.sound_facts.proofs.Past.{present-some}
 use Rattle.sound_facts.proofs.KindLaws.{far-end-paired, far-end-tree, far-end-inner}
 use Rattle.sound_facts.proofs.SoundParts.{sound→everywhere, sound→core, sound→rest}
-use Rattle.sound_slots.specs.OneSlot.{isThrough, isFarTouch, touchesHold, ringPlaced, innerHolds, pointsBack, pairHolds, stayHolds, growHolds, shrinkHolds, ruleOf, slotHolds, isVacant, vacantOf}
+use Rattle.sound_links.specs.Links.{isThrough, isFarTouch, touchesHold, ringPlaced, pointsBack, pairHolds}
+use Rattle.sound_states.specs.States.{innerHolds, stayHolds, growHolds, shrinkHolds}
+use Rattle.sound_slots.specs.OneSlot.{ruleOf, slotHolds, isVacant, vacantOf}
 
 module _ (t : Table) (full : Full t) (h : T (sound t)) where
   core : Core t

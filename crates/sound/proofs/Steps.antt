@@ -4,10 +4,12 @@ use mathlib.Core.List.{List}
 use mathlib.Core.Bool.{Bool, true, false}
 use Prim.Native.Nat.{ℕ, _-_}
 use Rattle.table.specs.Table.{Table}
-use Rattle.sound_slots.specs.Pass.{allFrom}
+use Rattle.sound_marks.specs.Pass.{allFrom}
 use Rattle.sound_slots.specs.OneSlot.{slotHolds, isVacant}
-use Rattle.sound_walks.specs.Marks.{Judged, judgedOf, listStep, ringStep, sweep}
-use Rattle.sound_walks.specs.Depths.{wayStep}
+use Rattle.sound_marks.specs.Marks.{Judged, judgedOf, sweep}
+use Rattle.sound_children.specs.Lists.{listStep}
+use Rattle.sound_rings.specs.Rings.{ringStep}
+use Rattle.sound_ways.specs.Depths.{wayStep}
 use Rattle.sound.specs.Given.{unseen, eachHolds, givenPass, blossomPass, pathsHold}
 
 -- ---- each slot by itself

@@ -2,9 +2,9 @@
 //
 // Slots that are not given out must be empty; the others, the defects below `count_defects` and the blossoms from begin on, are
 // judged one by one, and then along their pointers.
-use sound_walks::children;
-use sound_walks::rings;
-use sound_walks::ways;
+use sound_children::children;
+use sound_rings::rings;
+use sound_ways::ways;
 use table::Table;
 ghost use mathlib.Core.Path.{_≡_};
 ghost use Rattle.table.specs.Words.{tableOf};

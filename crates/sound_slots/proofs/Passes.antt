@@ -4,7 +4,7 @@ use mathlib.Core.Bool.{Bool, true, false}
 use Prim.Native.Nat.{ℕ, suc, _+_, _-_, _≤_, _<_}
 use native.Mathlib.Numerals.{add-one}
 use native.Mathlib.Omega.{arith}
-use Rattle.sound_slots.specs.Pass.{allFrom}
+use Rattle.sound_marks.specs.Pass.{allFrom}
 
 module _ (f : ℕ → Bool) (to i : ℕ) where
   pub from-end : to ≤ i → allFrom f (to - i) i ≡ true

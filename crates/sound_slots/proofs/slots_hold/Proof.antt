@@ -1,6 +1,6 @@
 use borrow.Author.Needs.{needs}
 use Rattle.sound_slots.proofs.Passes.{from-end, from-stop, from-more}
-use Rattle.sound_slots.specs.Pass.{allFrom}
+use Rattle.sound_marks.specs.Pass.{allFrom}
 use Rattle.sound_slots.specs.OneSlot.{slotHolds}
 use Rattle.table.specs.Words.{tableOf}
 use borrow.Author.Tests.{not-true, not-false}

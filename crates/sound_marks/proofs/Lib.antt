@@ -1,0 +1,4 @@
+pub mod Steps
+pub mod Truth
+pub mod Walks
+pub mod Sweeps

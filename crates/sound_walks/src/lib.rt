@@ -1,7 +1,0 @@
-// S5, S6 and S7 in linear work. A walk marks what it passes and stops at the first node that is not its owner's; afterwards
-// every node with a parent must be marked. Depths are remembered, so no node is climbed twice.
-pub mod children;
-pub mod depths;
-pub mod marks;
-pub mod rings;
-pub mod ways;

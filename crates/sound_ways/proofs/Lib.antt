@@ -1,0 +1,2 @@
+pub mod DepthSteps
+pub mod WaysEnd
