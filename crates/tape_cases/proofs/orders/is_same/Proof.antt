@@ -1,13 +1,13 @@
 use borrow.Author.Needs.{needs}
 use Prim.Native.Nat.{_≤_, _-_}
-use Rattle.tapes_run.proofs.orders.is_same.Statement.{statement}
-use Rattle.tapes_run.proofs.orders.is_same.Tie as tie
+use Rattle.tape_cases.proofs.orders.is_same.Statement.{statement}
+use Rattle.tape_cases.proofs.orders.is_same.Tie as tie
 
 abbrev Inv-loop : tie.InvT-loop
-Inv-loop a b i₀ i = i ≤ 2819
+Inv-loop a b a-out b-out i₀ i = i ≤ 2819
 
 abbrev μ-loop : tie.MeasureT-loop
-μ-loop a b i₀ i = 2819 - i
+μ-loop a b a-out b-out i₀ i = 2819 - i
 
 pub is-same-spec : {M : Type 1} → statement M
 is-same-spec =
@@ -24,4 +24,5 @@ is-same-spec =
     (λ c. search needs)
     (λ c. search needs)
     (λ c. search needs)
+    (λ c κs. search needs)
     (λ c. search needs))

@@ -1,28 +1,28 @@
 use borrow.Author.Needs.{needs}
-use Prim.Native.Nat.{_≤_, _-_}
+use Prim.Native.Nat.{_≤_, _-_, _+_}
 use lib.ListN.{length}
-use Rattle.tapes_run.proofs.parts.Statement.{statement}
-use Rattle.tapes_run.proofs.parts.Tie as tie
+use Rattle.tapes_run.proofs.cases.Statement.{statement}
+use Rattle.tapes_run.proofs.cases.Tie as tie
 
 abbrev Inv-loop : tie.InvT-loop
-Inv-loop text is-case₀ from₀ is-case from = from ≤ length text
+Inv-loop text at₀ at = at ≤ length text + 1
 
 abbrev μ-loop : tie.MeasureT-loop
-μ-loop text is-case₀ from₀ is-case from = length text - from
+μ-loop text at₀ at = length text - at
 
-pub parts-spec : {M : Type 1} → statement M
-parts-spec =
+pub cases-spec : {M : Type 1} → statement M
+cases-spec =
     tie.close
     (tie.spec
     Inv-loop
     μ-loop
     (λ c. search needs)
     (λ c κs. search needs)
+    (λ c κs. search needs)
     (λ c. search needs)
     (λ c. search needs)
     (λ c. search needs)
     (λ c κs. search needs)
-    (λ c. search needs)
     (λ c. search needs)
     (λ c. search needs)
     (λ c. search needs)

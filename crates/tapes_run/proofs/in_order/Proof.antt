@@ -1,15 +1,15 @@
 use borrow.Author.Needs.{needs}
-use Prim.Native.Nat.{_≤_, _<_, _-_, _+_}
+use Prim.Native.Nat.{_≤_, _-_}
 use lib.ListN.{length}
 use mathlib.Core.Path.{_≡_}
-use Rattle.tapes_run.proofs.orders.in_order.Statement.{statement}
-use Rattle.tapes_run.proofs.orders.in_order.Tie as tie
+use Rattle.tapes_run.proofs.in_order.Statement.{statement}
+use Rattle.tapes_run.proofs.in_order.Tie as tie
 
 abbrev Inv-loop : tie.InvT-loop
-Inv-loop t₀ out₀ script order n requests i₀ t out i = (i ≤ n + 1) × (n < 24) × (length out ≡ length out₀)
+Inv-loop t₀ out₀ script order k₀ t out k = (k ≤ 24) × (65536 ≤ length out) × (length out ≡ length out₀)
 
 abbrev μ-loop : tie.MeasureT-loop
-μ-loop t₀ out₀ script order n requests i₀ t out i = n + 1 - i
+μ-loop t₀ out₀ script order k₀ t out k = 24 - k
 
 pub in-order-spec : {M : Type 1} → statement M
 in-order-spec =
@@ -17,15 +17,17 @@ in-order-spec =
     (tie.spec
     Inv-loop
     μ-loop
+    (λ c κs. search needs)
     (λ c. search needs)
     (λ c κs. search needs)
     (λ c κs. search needs)
     (λ c. search needs)
-    (λ c. search needs)
-    (λ c. search needs)
     (λ c κs. search needs)
     (λ c. search needs)
     (λ c. search needs)
+    (λ c. search needs)
+    (λ c. search needs)
+    (λ c κs. search needs)
     (λ c. search needs)
     (λ c. search needs)
     (λ c. search needs)

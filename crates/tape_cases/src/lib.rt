@@ -1,0 +1,35 @@
+// The cases of the program `tapes_run`: what each says, and what is printed of it.
+pub mod letters;
+pub mod orders;
+pub mod stored;
+
+use libc::STDOUT_FILENO;
+ghost use Prim.Native.Nat.{_≤_};
+ghost use lib.ListN.{length};
+
+// Writes out what stands before the next case, and tells where that starts.
+pub fn skip(text: &[u8], from: usize) -> usize
+    requires { ⌜ from ≤ length (now text) ⌝ }
+    ensures { λ r. ⌜ from ≤ r ⌝ }
+    ensures { λ r. ⌜ r ≤ length (now (text .entry)) ⌝ }
+{
+    let to = bytes::scan::find(text, from, text.len(), b'|');
+    io::write_all(STDOUT_FILENO, &text[from..to]);
+    if to == text.len() {
+        return to;
+    }
+    to + 1
+}
+
+// Whether a case is a script, which starts with a digit and a dot, and not a stored tape.
+pub fn is_script(case: &[u8]) -> bool {
+    if case.len() < 2 {
+        return false;
+    }
+    case[1] == b'.'
+}
+
+fn told(n: usize, words: &[u8]) {
+    io::print_decimal(STDOUT_FILENO, n as u64);
+    io::write_all(STDOUT_FILENO, words);
+}
