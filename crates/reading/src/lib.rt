@@ -18,7 +18,7 @@ pub fn read_record(tape: &[u8]) -> Reading
     if tape.len() < size {
         return Reading::Refused(Refusal::BadRecord);
     }
-    let layout = record::kind::layout_of(field_reading::narrow_at(tape, 2));
+    let layout = layouts::layout_of(field_reading::narrow_at(tape, 2));
     if length != layout.length {
         return Reading::Refused(Refusal::BadRecord);
     }

@@ -1,7 +1,4 @@
 // The kinds of records, each with its number and its length.
-ghost use mathlib.Core.Path.{_≡_};
-ghost use Rattle.record.specs.Kinds.{layoutOf};
-
 pub enum Kind {
     // Requests.
     Conflict,
@@ -70,58 +67,3 @@ pub const PAIR_LENGTH: u16 = 14;
 pub const VIRTUAL_PAIR: u16 = 21;
 
 pub const VIRTUAL_PAIR_LENGTH: u16 = 12;
-
-pub fn layout_of(kind: u16) -> Layout
-    ensures { λ r. ⌜ r ≡ layoutOf kind ⌝ }
-{
-    match kind {
-        CONFLICT => Layout {
-            kind: Kind::Conflict,
-            length: CONFLICT_LENGTH,
-        },
-        VIRTUAL_CONFLICT => Layout {
-            kind: Kind::VirtualConflict,
-            length: VIRTUAL_CONFLICT_LENGTH,
-        },
-        EXPANSION => Layout {
-            kind: Kind::Expansion,
-            length: EXPANSION_LENGTH,
-        },
-        RESET => Layout {
-            kind: Kind::Reset,
-            length: RESET_LENGTH,
-        },
-        LIST => Layout {
-            kind: Kind::List,
-            length: LIST_LENGTH,
-        },
-        SPEED => Layout {
-            kind: Kind::Speed,
-            length: SPEED_LENGTH,
-        },
-        CREATE => Layout {
-            kind: Kind::Create,
-            length: CREATE_LENGTH,
-        },
-        EXPAND => Layout {
-            kind: Kind::Expand,
-            length: EXPAND_LENGTH,
-        },
-        END => Layout {
-            kind: Kind::End,
-            length: END_LENGTH,
-        },
-        PAIR => Layout {
-            kind: Kind::Pair,
-            length: PAIR_LENGTH,
-        },
-        VIRTUAL_PAIR => Layout {
-            kind: Kind::VirtualPair,
-            length: VIRTUAL_PAIR_LENGTH,
-        },
-        0 | 6..=15 | 22..=65535 => Layout {
-            kind: Kind::Other,
-            length: 0,
-        },
-    }
-}

@@ -59,7 +59,7 @@ fn kind_of(line: &[u8], kind: u16, record: &mut [u8]) -> u16 {
 
 // The length and the kind stand first. Returns the bytes that the record fills.
 fn put_header(record: &mut [u8], kind: u16) -> usize {
-    let length = record::kind::layout_of(kind).length;
+    let length = layouts::layout_of(kind).length;
     put(record, 0, length as u32 + kind as u32 * 65536, 4);
     2 + length as usize
 }

@@ -1,7 +1,7 @@
 use Rattle.record.specs.Kinds.{layoutOf}
 use Rattle.record.proofs.Layouts.{layout-other}
-use Rattle.record.proofs.kind.layout_of.Statement.{statement}
-use Rattle.record.proofs.kind.layout_of.Tie as tie
+use Rattle.layouts.proofs.layout_of.Statement.{statement}
+use Rattle.layouts.proofs.layout_of.Tie as tie
 
 pub layout-of-spec : {M : Type 1} → statement M
 unfolding layoutOf
