@@ -1,6 +1,5 @@
 // What an accepted conflict does (01, "What a conflict does"): the rows of the conflict table.
 use nodes::Place;
-use nodes::place;
 use record::Conflict;
 use slot::Link;
 use slot::Node;
@@ -54,7 +53,7 @@ fn trees_meet(t: &mut Table, out: &mut [u8], pos: usize, x: Node, y: Node, link:
 fn resolve_free(t: &mut Table, out: &mut [u8], pos: usize, x: Node, y: Node, link: Link) -> usize
     ensures { λ r. ⌜ worldOf (now (t .exit)) (now (out .exit)) r ≡ run (worldOf (now (t .entry)) (now (out .entry)) pos) (rowOf P.Free (place (at (tableOf (now (t .entry))) (y .0))) (x .0) (y .0) (linkOf link)) ⌝ }
 {
-    match place::place_of(t, y) {
+    match places::place_of(t, y) {
         Place::Free => pairing::temporary_match(t, out, pos, x, link, y),
         Place::Paired(peer) => growth::grow_tree(
             t,
@@ -85,7 +84,7 @@ fn resolve_paired(
 ) -> usize
     ensures { λ r. ⌜ worldOf (now (t .exit)) (now (out .exit)) r ≡ run (worldOf (now (t .entry)) (now (out .entry)) pos) (rowOf (P.Paired peer) (place (at (tableOf (now (t .entry))) (y .0))) (x .0) (y .0) (linkOf link)) ⌝ }
 {
-    match place::place_of(t, y) {
+    match places::place_of(t, y) {
         Place::Free => growth::grow_tree(t, out, pos, y, link, x, peer),
         Place::Paired(other) => pos,
         Place::Virtual => pos,
@@ -96,7 +95,7 @@ fn resolve_paired(
 fn resolve_virtual(t: &mut Table, out: &mut [u8], pos: usize, x: Node, y: Node, link: Link) -> usize
     ensures { λ r. ⌜ worldOf (now (t .exit)) (now (out .exit)) r ≡ run (worldOf (now (t .entry)) (now (out .entry)) pos) (rowOf P.Virtual (place (at (tableOf (now (t .entry))) (y .0))) (x .0) (y .0) (linkOf link)) ⌝ }
 {
-    match place::place_of(t, y) {
+    match places::place_of(t, y) {
         Place::Free => pairing::temporary_match(t, out, pos, y, slot::link::mirrored(link), x),
         Place::Paired(other) => pos,
         Place::Virtual => pos,
@@ -110,7 +109,7 @@ fn resolve_virtual(t: &mut Table, out: &mut [u8], pos: usize, x: Node, y: Node, 
 fn resolve_tree(t: &mut Table, out: &mut [u8], pos: usize, x: Node, y: Node, link: Link) -> usize
     ensures { λ r. ⌜ worldOf (now (t .exit)) (now (out .exit)) r ≡ run (worldOf (now (t .entry)) (now (out .entry)) pos) (rowOf P.Tree (place (at (tableOf (now (t .entry))) (y .0))) (x .0) (y .0) (linkOf link)) ⌝ }
 {
-    match place::place_of(t, y) {
+    match places::place_of(t, y) {
         Place::Free => {
             let p = matching::augment_whole_tree(t, out, pos, x);
             pairing::temporary_match(t, out, p, x, link, y)
@@ -136,7 +135,7 @@ fn resolve_tree(t: &mut Table, out: &mut [u8], pos: usize, x: Node, y: Node, lin
 fn resolve(t: &mut Table, out: &mut [u8], pos: usize, x: Node, y: Node, link: Link) -> usize
     ensures { λ r. ⌜ worldOf (now (t .exit)) (now (out .exit)) r ≡ run (worldOf (now (t .entry)) (now (out .entry)) pos) (resolved (x .0) (y .0) (linkOf link)) ⌝ }
 {
-    match place::place_of(t, x) {
+    match places::place_of(t, x) {
         Place::Free => resolve_free(t, out, pos, x, y, link),
         Place::Paired(peer) => resolve_paired(t, out, pos, x, y, link, peer),
         Place::Virtual => resolve_virtual(t, out, pos, x, y, link),

@@ -1,7 +1,6 @@
 // The listing (01, "The listing"): slot after slot, each matched outer node.
 use nodes::Place;
 use nodes::field;
-use nodes::place;
 use record::Record;
 use record::VirtualPair;
 use refusal::Answer;
@@ -61,7 +60,7 @@ fn list_slot(t: &Table, out: &mut [u8], pos: usize, n: Node) -> usize
     if !field::is_outer(t, n) {
         return pos;
     }
-    match place::place_of(t, n) {
+    match places::place_of(t, n) {
         Place::Free => pos,
         Place::Paired(peer) => list_paired(t, out, pos, n, peer),
         Place::Virtual => list_virtual(t, out, pos, n),

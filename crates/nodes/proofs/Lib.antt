@@ -1,4 +1,3 @@
 pub mod ByState
 pub mod Climbs
 pub mod Examples
-pub mod Places

@@ -1,7 +1,6 @@
 // Virtual conflict on a table that is known to be sound: the refusals after the first, in 01's order, and then the rule; from a
 // position of the lent bytes on. What is promised holds on any table, but it is 01's answer on a sound one only.
 use nodes::Place;
-use nodes::place;
 use record::VirtualConflict;
 use refusal::Answer;
 use refusal::Refusal;
@@ -21,7 +20,7 @@ ghost use Rattle.outcome.specs.Handled.{Handled};
 fn leave_tree(t: &mut Table, out: &mut [u8], pos: usize, n: Node) -> usize
     ensures { λ r. ⌜ worldOf (now (t .exit)) (now (out .exit)) r ≡ run (worldOf (now (t .entry)) (now (out .entry)) pos) (freed (place (at (tableOf (now (t .entry))) (n .0))) (n .0)) ⌝ }
 {
-    match place::place_of(t, n) {
+    match places::place_of(t, n) {
         Place::Free => pos,
         Place::Paired(other) => pos,
         Place::Virtual => pos,

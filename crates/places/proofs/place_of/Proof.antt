@@ -1,32 +1,26 @@
-use Rattle.nodes.proofs.Places.{place-parent, place-child, place-free, place-virtual, place-paired}
+use Rattle.places.proofs.Steps.{place-parent, place-child, place-free, place-virtual, place-paired}
 use borrow.Author.Needs.{needs}
-use Rattle.nodes.proofs.place.place_of.Statement.{statement}
-use Rattle.nodes.proofs.place.place_of.Tie as tie
-use Rattle.nodes.proofs.place.place_of.Reads as reads
-use Rattle.nodes.proofs.place.place_of.Lts as lts
+use Rattle.places.proofs.place_of.Statement.{statement}
+use Rattle.places.proofs.place_of.Tie as tie
+use Rattle.places.proofs.place_of.Reads as reads
+use Rattle.places.proofs.place_of.Lts as lts
 use Rattle.table.proofs.get.Reads as get-reads
 
--- src/place.rt:23:9
 get-requires : tie.Need-get-requires
 get-requires c κs = search needs
 
--- src/place.rt:26:9
 returns : tie.Need-returns
 returns c = place-parent _ _ (c .before .before .before .get .ensures) (c .if1 .taken)
 
--- src/place.rt:29:9
 returns-2 : tie.Need-returns-2
 returns-2 c = place-child _ _ (c .before .before .before .before .before .get .ensures) (c .before .before .if1 .left) (c .if2 .taken)
 
--- src/place.rt:32:9
 returns-3 : tie.Need-returns-3
 returns-3 c = place-free _ _ (c .before .before .before .before .before .before .before .get .ensures) (c .before .before .before .before .if1 .left) (c .before .before .if2 .left) (c .if3 .taken)
 
--- src/place.rt:35:9
 returns-4 : tie.Need-returns-4
 returns-4 c = place-virtual _ _ (c .before .before .before .before .before .before .before .before .before .get .ensures) (c .before .before .before .before .before .before .if1 .left) (c .before .before .before .before .if2 .left) (c .before .before .if3 .left) (c .if4 .taken)
 
--- src/place.rt:20:1
 returns-5 : tie.Need-returns-5
 returns-5 c = place-paired _ _ (c .before .before .before .before .before .before .before .before .before .get .ensures) (c .before .before .before .before .before .before .if1 .left) (c .before .before .before .before .if2 .left) (c .before .before .if3 .left) (c .if4 .left)
 
