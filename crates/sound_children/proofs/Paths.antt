@@ -8,10 +8,7 @@ use lib.Dec.{eqb}
 use lib.ListN.{length}
 use borrow.Author.Tests.{eqb-true, eq-eqb}
 use Rattle.lists.specs.Choice.{pick}
-use Rattle.slot.specs.declared.state.State.{State}
-use Rattle.slot.specs.declared.state.State.the-variants as S
 use Rattle.slot.specs.Number.{none}
-use Rattle.slot.specs.State.{isPresent, isOuter}
 use Rattle.table.specs.Table.{Table, at}
 use Rattle.nodes.specs.Nodes.{outer}
 use Rattle.rules.specs.Slots.{up, next}
@@ -23,14 +20,6 @@ use Rattle.sound_marks.proofs.Walks.{unseen, small, good, marking-length, walk-
 use Rattle.sound_marks.proofs.Sweeps.{pass-fine, pass-whole, fine-pass, fine-claim}
 use Rattle.sound_marks.proofs.Steps.{marking-end}
 use Rattle.sound_children.specs.Lists.{listEnded, listStep}
-
-pub outer-present : (s : State) → isOuter s ≡ true → isPresent s ≡ true
-outer-present S.Empty h = h
-outer-present S.Inner h = refl
-outer-present S.Stay h = refl
-outer-present S.Grow h = refl
-outer-present S.Shrink h = refl
-outer-present S.Damaged h = refl
 
 unbroken : (g : Bool) (n : ℕ) → n ≤ 256 → not (eqb (pick g n none) none) ≡ g
 unbroken true n h = rw (small n h)
