@@ -39,7 +39,7 @@ fn in_order(t: &mut Table, out: &mut [u8], script: &[u8], order: usize)
     let mut k = 1;
     while k < 24 {
         let i = orders::at(script, order, k);
-        let from = orders::room(i);
+        let from = i % 24 * orders::ROOM;
         let to = from + 4102;
         run(t, &letters::request(script, i), &mut out[from..to], 1);
         k += 1;
