@@ -86,10 +86,12 @@ pub fn report(agreeing: usize, orders: usize) {
         io::write_all(STDOUT_FILENO, b"a request is refused");
         return;
     }
-    told(agreeing, b" of ");
-    if agreeing == orders {
-        told(orders, b" orders: same");
-        return;
-    }
-    told(orders, b" orders: different");
+    told(
+        agreeing,
+        b" of ",
+        orders,
+        agreeing == orders,
+        b" orders: same",
+        b" orders: different",
+    );
 }
