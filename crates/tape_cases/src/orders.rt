@@ -16,7 +16,7 @@ fn exchanged(i: usize, a: usize, b: usize) -> usize {
 }
 
 // Which request comes at place k in an order; in order 0 this is request k. The remainder of the order by 2, of the quotient by 3
-// and so on tell which exchange is made in the last two, three .. places, so each order below n! arranges the last n otherwise.
+// and so on tell which exchange is made in the last two, three .. places, so each order below 6! arranges the last six otherwise.
 pub fn at(script: &[u8], order: usize, k: usize) -> usize {
     let n = script.len() / 5;
     let mut i = k;

@@ -31,7 +31,7 @@ fn run(t: &mut Table, tape: &[u8], out: &mut [u8], allowance: u32) -> u32 {
     handled
 }
 
-// The requests of a script on a fresh table, each by a run of its own.
+// The requests of a script on a fresh table, each by a run of its own; after the last come listings, up to 23 in all.
 fn in_order(t: &mut Table, out: &mut [u8], script: &[u8], order: usize)
     requires { ⌜ 65536 ≤ length (now out) ⌝ }
 {
