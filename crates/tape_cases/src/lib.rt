@@ -29,7 +29,14 @@ pub fn is_script(case: &[u8]) -> bool {
     case[1] == b'.'
 }
 
-fn told(n: usize, words: &[u8]) {
+// Writes two numbers with words between them, and then how it went.
+fn told(n: usize, words: &[u8], m: usize, is_good: bool, good: &[u8], bad: &[u8]) {
     io::print_decimal(STDOUT_FILENO, n as u64);
     io::write_all(STDOUT_FILENO, words);
+    io::print_decimal(STDOUT_FILENO, m as u64);
+    if is_good {
+        io::write_all(STDOUT_FILENO, good);
+        return;
+    }
+    io::write_all(STDOUT_FILENO, bad);
 }

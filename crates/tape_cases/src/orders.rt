@@ -16,7 +16,7 @@ fn exchanged(i: usize, a: usize, b: usize) -> usize {
 }
 
 // Which request comes at place k in an order; in order 0 this is request k. The remainder of the order by 2, of the quotient by 3
-// and so on tell which exchange is made in the last two, three .. places, so each order below n! arranges the last n otherwise.
+// and so on tell which exchange is made in the last two, three .. places, so each order below 6! arranges the last six otherwise.
 pub fn at(script: &[u8], order: usize, k: usize) -> usize {
     let n = script.len() / 5;
     let mut i = k;
@@ -31,13 +31,9 @@ pub fn at(script: &[u8], order: usize, k: usize) -> usize {
     i
 }
 
-// Where the answers to request i start. Its room is 4,102 bytes, what a run wants, of which the next room leaves it the first 2,600:
+// The answers to request i start at i times this. Its room is 4,102 bytes, what a run wants, of which the next room leaves it these:
 // no request of a script has more answers.
-pub fn room(i: usize) -> usize
-    ensures { λ r. ⌜ r ≤ 61434 ⌝ }
-{
-    i % 24 * 2600
-}
+pub const ROOM: usize = 2600;
 
 // Whether an accepted request has the answers that start here: a refused one is answered by its end alone, a record of kind 19, with
 // the refusal's number. No answer has a kind above 21.
@@ -53,7 +49,7 @@ fn is_accepted(out: &[u8; 65536], from: usize) -> bool
 fn are_accepted(out: &[u8; 65536]) -> bool {
     let mut i = 1;
     while i < 24 {
-        if !is_accepted(out, room(i)) {
+        if !is_accepted(out, i * ROOM) {
             return false;
         }
         i += 1;
@@ -90,10 +86,12 @@ pub fn report(agreeing: usize, orders: usize) {
         io::write_all(STDOUT_FILENO, b"a request is refused");
         return;
     }
-    told(agreeing, b" of ");
-    if agreeing == orders {
-        told(orders, b" orders: same");
-        return;
-    }
-    told(orders, b" orders: different");
+    told(
+        agreeing,
+        b" of ",
+        orders,
+        agreeing == orders,
+        b" orders: same",
+        b" orders: different",
+    );
 }

@@ -29,10 +29,12 @@ pub fn report(case: &[u8], handled: u32, out: &[u8]) {
     }
     let mut answers = io::large_buffer();
     let size = io::read_full(os::open_read(&case[4..]), &mut answers);
-    told(handled as usize, b" requests, ");
-    if check::same(out, &answers) {
-        told(size, b" bytes: as the original");
-        return;
-    }
-    told(size, b" bytes: NOT as the original");
+    told(
+        handled as usize,
+        b" requests, ",
+        size,
+        check::same(out, &answers),
+        b" bytes: as the original",
+        b" bytes: NOT as the original",
+    );
 }

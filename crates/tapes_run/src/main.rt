@@ -31,7 +31,7 @@ fn run(t: &mut Table, tape: &[u8], out: &mut [u8], allowance: u32) -> u32 {
     handled
 }
 
-// The requests of a script on a fresh table, each by a run of its own.
+// The requests of a script on a fresh table, each by a run of its own; after the last come listings, up to 23 in all.
 fn in_order(t: &mut Table, out: &mut [u8], script: &[u8], order: usize)
     requires { ⌜ 65536 ≤ length (now out) ⌝ }
 {
@@ -39,7 +39,7 @@ fn in_order(t: &mut Table, out: &mut [u8], script: &[u8], order: usize)
     let mut k = 1;
     while k < 24 {
         let i = orders::at(script, order, k);
-        let from = orders::room(i);
+        let from = i % 24 * orders::ROOM;
         let to = from + 4102;
         run(t, &letters::request(script, i), &mut out[from..to], 1);
         k += 1;
