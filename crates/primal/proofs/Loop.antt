@@ -82,16 +82,16 @@ module _ (w : World) (rest : List ℕ) (handled : ℕ) where
 
 abbrev pub Follows : Next → ℕ → World → List ℕ → ℕ → Type 0
 Follows (N.Stop n) k w rest handled = (s : Stop) × (n ≡ stopNumber s) × (runFrom k (stands w rest handled) ≡ stopped s (stands w rest handled))
-Follows (N.Record q size) k w rest handled =
-    (k ≡ 0 → ⊥)
+Follows (N.Record q size left) k w rest handled =
+    (k ≡ left + 1)
     × (reading.read rest ≡ G.Request q size)
-    × ((w₁ : World) (rest₁ : List ℕ) → w₁ ≡ served q w → rest₁ ≡ drop size rest → runFrom (k - 1) (stands w₁ rest₁ (handled + 1)) ≡ runFrom k (stands w rest handled))
+    × ((w₁ : World) (rest₁ : List ℕ) → w₁ ≡ served q w → rest₁ ≡ drop size rest → runFrom left (stands w₁ rest₁ (handled + 1)) ≡ runFrom k (stands w rest handled))
 
 module _ (w : World) (rest : List ℕ) (handled k m : ℕ) (e : m ≡ room w) where
   by-reading : (length rest ≡ 0 → ⊥) → (k ≡ 0 → ⊥) → 4102 ≤ m → (g : Reading) → reading.read rest ≡ g → Follows (nextOf rest k m) k w rest handled
   by-reading more h fits (G.Request q size) r =
       rw (sym (next.one rest k m more h fits (reading.read rest) refl q size r))
-      (h, r, λ w₁ rest₁ d f. one-more w rest handled more k m size q w₁ rest₁ h e fits r d f)
+      (omega arith, r, λ w₁ rest₁ d f. one-more w rest handled more k m size q w₁ rest₁ h e fits r d f)
   by-reading more h fits (G.Refused n) r =
       rw (sym (next.bad rest k m more h fits (reading.read rest) refl n r)) (badRecord, refl, bad w rest handled more k m n h e fits r)
 

@@ -141,10 +141,10 @@ pub fn run<'a>(
                 *written = pos;
                 return rest;
             }
-            Next::Record(request, size) => {
+            Next::Record(request, size, after) => {
                 pos = serving::serve(t, out, pos, request);
                 rest = &rest[size..];
-                left -= 1;
+                left = after;
                 count += 1;
             }
         }

@@ -1,7 +1,7 @@
 -- By which arm the function leaves, in the code's order.
 use mathlib.Core.Path.{_≡_, refl}
 use mathlib.Core.List.{List}
-use Prim.Native.Nat.{ℕ, _≤_, _<_}
+use Prim.Native.Nat.{ℕ, _-_, _≤_, _<_}
 use lib.ListN.{length}
 use borrow.Author.Tests.{eq-eqb, ne-eqb, lt-ltb, le-ltb}
 use Rattle.refusal.specs.declared.Refusal.{Refusal}
@@ -28,7 +28,7 @@ module _ (rest : List ℕ) (left room : ℕ) where
       full e = rw (ne-eqb (length rest) 0 more, ne-eqb left 0 allowed, lt-ltb room 4102 e)
 
       module _ (fits : 4102 ≤ room) (g : Reading) (read : g ≡ reading.read rest) where
-        pub one : (q : Request) (size : ℕ) → g ≡ G.Request q size → N.Record q size ≡ nextOf rest left room
+        pub one : (q : Request) (size : ℕ) → g ≡ G.Request q size → N.Record q size (left - 1) ≡ nextOf rest left room
         unfolding nextOf
         one q size e = rw (ne-eqb (length rest) 0 more, ne-eqb left 0 allowed, le-ltb room 4102 fits, ← read, e)
 

@@ -1,6 +1,6 @@
 -- "Before each record it stops, in this order": the tape is empty, the allowance used, the output too full, the record bad.
 use mathlib.Core.List.{List}
-use Prim.Native.Nat.{ℕ}
+use Prim.Native.Nat.{ℕ, _-_}
 use lib.ListN.{length}
 use lib.Dec.{eqb, ltb}
 use Rattle.lists.specs.Choice.{pick}
@@ -11,9 +11,9 @@ use Rattle.rules.specs.Run.{tapeEmpty, allowanceUsed, outputFull, badRecord, st
 use Rattle.stopping.specs.declared.Next.{Next}
 use Rattle.stopping.specs.declared.Next.the-variants as N
 
-abbrev pub afterReading : Reading → Next
-afterReading (G.Request r size) = N.Record r size
-afterReading (G.Refused n) = N.Stop (stopNumber badRecord)
+abbrev pub afterReading : Reading → ℕ → Next
+afterReading (G.Request r size) left = N.Record r size (left - 1)
+afterReading (G.Refused n) left = N.Stop (stopNumber badRecord)
 
 -- what comes next, with this rest of the tape, so many records allowed and so much room
 unfoldable pub nextOf : List ℕ → ℕ → ℕ → Next
@@ -22,4 +22,4 @@ nextOf rest left room =
     (N.Stop (stopNumber tapeEmpty))
     (pick (eqb left 0)
     (N.Stop (stopNumber allowanceUsed))
-    (pick (ltb room 4102) (N.Stop (stopNumber outputFull)) (afterReading (reading.read rest))))
+    (pick (ltb room 4102) (N.Stop (stopNumber outputFull)) (afterReading (reading.read rest) left)))

@@ -7,8 +7,8 @@ ghost use Rattle.stopping.specs.Next.{nextOf};
 pub enum Next {
     // The stop's number.
     Stop(u16),
-    // The request that stands first on the tape, and the bytes that its record fills.
-    Record(Request, usize),
+    // The request that stands first on the tape, the bytes that its record fills, and how many records are allowed after it.
+    Record(Request, usize, u32),
 }
 
 // 01: "Before each record it stops, in this order". The room is what the output has left: 4,096 bytes for the answers and 6 for
@@ -26,7 +26,7 @@ pub fn what_next(rest: &[u8], left: u32, room: usize) -> Next
         return Next::Stop(2);
     }
     match reading::read_record(rest) {
-        Reading::Request(request, size) => Next::Record(request, size),
+        Reading::Request(request, size) => Next::Record(request, size, left - 1),
         Reading::Refused(refusal) => Next::Stop(3),
     }
 }

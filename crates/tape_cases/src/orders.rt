@@ -2,6 +2,7 @@
 // these are, at most seven.
 use crate::told;
 use libc::STDOUT_FILENO;
+use table::Table;
 ghost use Prim.Native.Nat.{_≤_};
 
 // Where i goes when what stands at a and at b is exchanged.
@@ -70,7 +71,7 @@ pub fn count(script: &[u8], out: &[u8; 65536]) -> usize {
 }
 
 // Whether two orders end in the same table, with the same answers to each request and the same listing.
-pub fn is_same(a: &[u16; 2819], b: &[u16; 2819], a_out: &[u8; 65536], b_out: &[u8; 65536]) -> bool {
+pub fn is_same(a: &Table, b: &Table, a_out: &[u8; 65536], b_out: &[u8; 65536]) -> bool {
     let mut i = 0;
     while i < 2819 {
         if a[i] != b[i] {

@@ -42,7 +42,6 @@ run-spec =
     (λ c. read-size _ _ _ ((follows (worldOf (c .before .before .before .before .before .before .before .before .before .before .before .loop .t) (c .before .before .before .before .before .before .before .before .before .before .before .loop .out) (c .before .before .before .before .before .before .before .before .before .before .before .loop .pos)) _ (c .before .before .before .before .before .before .before .before .before .before .before .loop .count) _ _ (c .before .before .before .before .before .before .before .before .before .room .ensures) _ _ (c .before .before .before .before .before .before .before .before .what-next .ensures) (c .before .before .before .before .before .before .request .given .1)) .1))
     (λ c. read-size _ _ _ ((follows (worldOf (c .before .before .before .before .before .before .before .before .before .before .before .loop .t) (c .before .before .before .before .before .before .before .before .before .before .before .loop .out) (c .before .before .before .before .before .before .before .before .before .before .before .loop .pos)) _ (c .before .before .before .before .before .before .before .before .before .before .before .loop .count) _ _ (c .before .before .before .before .before .before .before .before .before .room .ensures) _ _ (c .before .before .before .before .before .before .before .before .what-next .ensures) (c .before .before .before .before .before .before .request .given .1)) .1))
     (λ c. search needs)
-    (λ c. omega (arith, (follows (worldOf (c .before .before .before .before .before .before .before .before .before .before .before .before .loop .t) (c .before .before .before .before .before .before .before .before .before .before .before .before .loop .out) (c .before .before .before .before .before .before .before .before .before .before .before .before .loop .pos)) _ (c .before .before .before .before .before .before .before .before .before .before .before .before .loop .count) _ _ (c .before .before .before .before .before .before .before .before .before .before .room .ensures) _ _ (c .before .before .before .before .before .before .before .before .before .what-next .ensures) (c .before .before .before .before .before .before .before .request .given .1)) .0))
-    (λ c. let more : (c .before .before .before .before .before .before .before .before .before .before .before .before .loop .left) ≡ 0 → ⊥ = (follows (worldOf (c .before .before .before .before .before .before .before .before .before .before .before .before .loop .t) (c .before .before .before .before .before .before .before .before .before .before .before .before .loop .out) (c .before .before .before .before .before .before .before .before .before .before .before .before .loop .pos)) _ (c .before .before .before .before .before .before .before .before .before .before .before .before .loop .count) _ _ (c .before .before .before .before .before .before .before .before .before .before .room .ensures) _ _ (c .before .before .before .before .before .before .before .before .before .what-next .ensures) (c .before .before .before .before .before .before .before .request .given .1)) .0 in search (needs, more))
+    (λ c. let more = (follows (worldOf (c .before .before .before .before .before .before .before .before .before .before .before .before .loop .t) (c .before .before .before .before .before .before .before .before .before .before .before .before .loop .out) (c .before .before .before .before .before .before .before .before .before .before .before .before .loop .pos)) _ (c .before .before .before .before .before .before .before .before .before .before .before .before .loop .count) _ _ (c .before .before .before .before .before .before .before .before .before .before .room .ensures) _ _ (c .before .before .before .before .before .before .before .before .before .what-next .ensures) (c .before .before .before .before .before .before .before .request .given .1)) .0 in search (needs, more))
     (λ c. omega (arith, (follows (worldOf (c .before .before .before .before .before .before .before .before .before .before .before .before .loop .t) (c .before .before .before .before .before .before .before .before .before .before .before .before .loop .out) (c .before .before .before .before .before .before .before .before .before .before .before .before .loop .pos)) _ (c .before .before .before .before .before .before .before .before .before .before .before .before .loop .count) _ _ (c .before .before .before .before .before .before .before .before .before .before .room .ensures) _ _ (c .before .before .before .before .before .before .before .before .before .what-next .ensures) (c .before .before .before .before .before .before .before .request .given .1)) .0))
     (λ c. ((follows _ _ _ _ _ (c .before .before .before .before .before .before .before .before .before .before .room .ensures) _ _ (c .before .before .before .before .before .before .before .before .before .what-next .ensures) (c .before .before .before .before .before .before .before .request .given .1)) .2 _ _ (served-world _ _ _ _ _ _ _ (c .before .before .before .serve .ensures) (c .before .before .before .before .before .before .before .before .before .before .before .before .loop .inv .3)) (tail (c .before .before .before .before .before .before .before .before .before .before .before .before .loop .rest .now) (c .before .before .before .before .before .before .before .request .given .0 .1 .0)) ∙ (c .before .before .before .before .before .before .before .before .before .before .before .before .loop .inv .0), (c .before .before .before .serve .kept .1 .0) ∙ (c .before .before .before .before .before .before .before .before .before .before .before .before .loop .inv .1), omega (arith, (c .before .before .before .before .before .before .before .before .before .before .before .before .loop .inv .2), (follows (worldOf (c .before .before .before .before .before .before .before .before .before .before .before .before .loop .t) (c .before .before .before .before .before .before .before .before .before .before .before .before .loop .out) (c .before .before .before .before .before .before .before .before .before .before .before .before .loop .pos)) _ (c .before .before .before .before .before .before .before .before .before .before .before .before .loop .count) _ _ (c .before .before .before .before .before .before .before .before .before .before .room .ensures) _ _ (c .before .before .before .before .before .before .before .before .before .what-next .ensures) (c .before .before .before .before .before .before .before .request .given .1)) .0), served-sound _ _ _ _ _ _ _ (c .before .before .before .serve .ensures) (c .before .before .before .before .before .before .before .before .before .before .before .before .loop .inv .3))))
