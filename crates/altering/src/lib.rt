@@ -19,7 +19,7 @@ pub fn set_parent(t: &mut Table, n: Node, parent: Node)
     let sibling = s.sibling;
     let ring = s.ring;
     let link = s.link;
-    table::store(
+    storing::store(
         t,
         n,
         Slot {
@@ -42,7 +42,7 @@ pub fn set_first_child(t: &mut Table, n: Node, first_child: Node)
     let sibling = s.sibling;
     let ring = s.ring;
     let link = s.link;
-    table::store(
+    storing::store(
         t,
         n,
         Slot {
@@ -65,7 +65,7 @@ pub fn set_sibling(t: &mut Table, n: Node, sibling: Node)
     let first_child = s.first_child;
     let ring = s.ring;
     let link = s.link;
-    table::store(
+    storing::store(
         t,
         n,
         Slot {
@@ -88,7 +88,7 @@ pub fn set_list_place(t: &mut Table, n: Node, parent: Node, sibling: Node)
     let first_child = s.first_child;
     let ring = s.ring;
     let link = s.link;
-    table::store(
+    storing::store(
         t,
         n,
         Slot {
@@ -115,7 +115,7 @@ pub fn shape(
     ensures { λ _. ⌜ tableOf (now (t .exit)) ≡ alter (n .0) (shaped state (parent .0) («first_child» .0) (sibling .0) (linkOf link)) (tableOf (now (t .entry))) ⌝ }
 {
     let ring = table::get(t, n).ring;
-    table::store(
+    storing::store(
         t,
         n,
         Slot {

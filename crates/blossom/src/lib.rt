@@ -22,7 +22,7 @@ fn place_blossom(t: &mut Table, b: Node, m: Node)
     let parent = s.parent;
     let sibling = s.sibling;
     let link = s.link;
-    table::store(
+    storing::store(
         t,
         b,
         Slot {

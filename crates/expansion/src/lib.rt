@@ -21,7 +21,7 @@ fn dispose_blossom(t: &mut Table, b: Node, p: Node, c: Node, above: Node, below:
 {
     blossom::list::alternating_tree_replace_child_with(t, above, b, p);
     altering::set_parent(t, below, c);
-    table::store(t, b, slot::value::empty_slot());
+    storing::store(t, b, slot::value::empty_slot());
 }
 
 // s is what stands in the blossom's slot.

@@ -26,7 +26,7 @@ pub fn load(t: &mut Table, n: Node)
     if nodes::field::has_node(t, n) {
         return;
     }
-    table::store(t, n, slot::value::new_node());
+    storing::store(t, n, slot::value::new_node());
     let defects = counts::count_defects(t);
     if defects <= n.0 {
         counts::set_count_defects(t, n.0 + 1);

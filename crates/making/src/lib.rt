@@ -22,7 +22,7 @@ fn clear_slots(t: &mut Table)
     let mut i: usize = 0;
     while i < 256 {
         let n = narrow(i);
-        table::store(t, Node(n), slot::value::empty_slot());
+        storing::store(t, Node(n), slot::value::empty_slot());
         i += 1;
     }
 }

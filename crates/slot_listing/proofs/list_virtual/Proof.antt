@@ -1,7 +1,7 @@
-use Rattle.listing.proofs.Steps.{virtual-step}
+use Rattle.slot_listing.proofs.Steps.{virtual-step}
 use borrow.Author.Needs.{needs}
-use Rattle.listing.proofs.list_virtual.Statement.{statement}
-use Rattle.listing.proofs.list_virtual.Tie as tie
+use Rattle.slot_listing.proofs.list_virtual.Statement.{statement}
+use Rattle.slot_listing.proofs.list_virtual.Tie as tie
 
 pub list-virtual-spec : {M : Type 1} → statement M
 list-virtual-spec =

@@ -1,7 +1,7 @@
-use Rattle.listing.proofs.Steps.{paired-smaller, paired-larger}
+use Rattle.slot_listing.proofs.Steps.{paired-smaller, paired-larger}
 use borrow.Author.Needs.{needs}
-use Rattle.listing.proofs.list_paired.Statement.{statement}
-use Rattle.listing.proofs.list_paired.Tie as tie
+use Rattle.slot_listing.proofs.list_paired.Statement.{statement}
+use Rattle.slot_listing.proofs.list_paired.Tie as tie
 
 pub list-paired-spec : {M : Type 1} → statement M
 list-paired-spec =

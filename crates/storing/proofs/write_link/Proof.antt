@@ -2,9 +2,9 @@ use native.Mathlib.Omega.{arith}
 use lib.ListN.{length-set}
 use borrow.Author.Needs.{needs}
 use Rattle.slot.specs.Slot.{linkOf}
 use Rattle.table.proofs.WordsOfSlots.{write-link-step}
-use Rattle.table.proofs.write_link.Statement.{statement}
-use Rattle.table.proofs.write_link.Tie as tie
+use Rattle.storing.proofs.write_link.Statement.{statement}
+use Rattle.storing.proofs.write_link.Tie as tie
 
 pub write-link-spec : {M : Type 1} → statement M
 write-link-spec =

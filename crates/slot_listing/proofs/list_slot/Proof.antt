@@ -1,9 +1,9 @@
-use Rattle.listing.proofs.Steps.{slot-inner, slot-step, unmatched}
+use Rattle.slot_listing.proofs.Steps.{slot-inner, slot-step, unmatched}
 use borrow.Author.Tests.{not-true, not-false}
 use mathlib.Core.Path.{sym, _∙_}
 use borrow.Author.Needs.{needs}
-use Rattle.listing.proofs.list_slot.Statement.{statement}
-use Rattle.listing.proofs.list_slot.Tie as tie
+use Rattle.slot_listing.proofs.list_slot.Statement.{statement}
+use Rattle.slot_listing.proofs.list_slot.Tie as tie
 
 pub list-slot-spec : {M : Type 1} → statement M
 list-slot-spec =

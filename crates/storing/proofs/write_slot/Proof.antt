@@ -1,11 +1,11 @@
 use Rattle.slot.specs.Slot.{slotOf}
 use Rattle.table.proofs.WordsOfSlots.{write-slot-step}
 use mathlib.Core.Path.{_≡_, refl, _∙_}
 use native.Mathlib.Omega.{arith}
 use lib.ListN.{length-set}
 use borrow.Author.Needs.{needs}
-use Rattle.table.proofs.write_slot.Statement.{statement}
-use Rattle.table.proofs.write_slot.Tie as tie
+use Rattle.storing.proofs.write_slot.Statement.{statement}
+use Rattle.storing.proofs.write_slot.Tie as tie
 
 pub write-slot-spec : {M : Type 1} → statement M
 write-slot-spec =

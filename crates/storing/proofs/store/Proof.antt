@@ -1,9 +1,9 @@
 use Rattle.table.proofs.WordsOfSlots.{put-words, put-past}
 use Rattle.table.specs.Words.{tableOf}
 use mathlib.Core.Path.{_∙_, ap}
 use borrow.Author.Needs.{needs}
-use Rattle.table.proofs.store.Statement.{statement}
-use Rattle.table.proofs.store.Tie as tie
+use Rattle.storing.proofs.store.Statement.{statement}
+use Rattle.storing.proofs.store.Tie as tie
 
 pub store-spec : {M : Type 1} → statement M
 store-spec = tie.close (tie.spec
