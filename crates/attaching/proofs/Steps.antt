@@ -2,8 +2,8 @@
 use mathlib.Core.Path.{_≡_, refl}
 use mathlib.Core.Bool.{Bool, true, false, not}
 use Prim.Native.Nat.{ℕ, zero, suc, _-_}
-use native.Mathlib.Omega.{arith}
 use borrow.Author.Tests.{eq-eqb, ne-eqb}
+use Rattle.lists.proofs.Budget.{fewer}
 use Rattle.slot.specs.declared.state.State.{State}
 use Rattle.slot.specs.Number.{none}
 use Rattle.slot.specs.Slot.{Link, mirror}
@@ -15,9 +15,6 @@ use Rattle.rules.specs.Act.{Act, World, run, choose, alter, speed}
 use Rattle.rules.specs.Slots.{shaped}
 use Rattle.rules.specs.Expansion.{stateBy, speedBy, attach, attachDown, attachUp}
 use Rattle.rules.proofs.Runs.{world, runs, run-skip, run-yes, run-no}
-
-pub fewer : (k : ℕ) → suc k - 1 ≡ k
-fewer k = omega arith
 
 -- a choice that is made
 module _ (w : World) (f g : Act) where

@@ -1,6 +1,6 @@
 -- The steps of the functions that change child lists, in the code's order: for each loop one lemma an exit and one a turn.
-use mathlib.Core.Path.{_≡_, refl, sym, ap, _∙_}
-use mathlib.Core.Bool.{Bool, true, false, _||_}
+use mathlib.Core.Path.{_≡_, refl, _∙_}
+use mathlib.Core.Bool.{_||_}
 use Prim.Native.Nat.{ℕ, zero, suc, _-_}
 use lib.Dec.{eqb}
 use borrow.Author.Tests.{eq-eqb, ne-eqb}
@@ -9,7 +9,7 @@ use Rattle.table.specs.Table.{Table, at}
 use Rattle.rules.specs.Act.{choose, alter, same}
 use Rattle.rules.specs.Slots.{withParent, withFirstChild, withSibling, up, next}
 use Rattle.rules.specs.Blossom.{relinked, relisted, replaceChild, adopted, moved, movedUpTo, lastBelow, gathered}
-use Rattle.ringing.proofs.Rings.{fewer}
+use Rattle.lists.proofs.Budget.{fewer}
 
 -- ---- the place in a child list
 

@@ -12,9 +12,7 @@ use Rattle.record.specs.declared.kind.Kind.the-variants as K
 use Rattle.record.specs.declared.request.Request.{Request}
 use Rattle.record.specs.declared.request.Reading.{Reading}
 use Rattle.record.specs.declared.request.Reading.the-variants as R
-use Rattle.record.specs.Kinds.{widths}
-use Rattle.record.specs.Fields.{decode}
-use Rattle.record.specs.Reading.{asked, bad, lengthAt, layoutAt, readAs, read}
+use Rattle.record.specs.Reading.{asked, bad, lengthAt, layoutAt, read}
 use Rattle.record.proofs.Read.{read-size}
 
 -- a refusal fills nothing

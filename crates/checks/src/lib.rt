@@ -6,9 +6,7 @@ use slot::State;
 use table::Table;
 ghost use mathlib.Core.Path.{_≡_};
 ghost use mathlib.Core.Bool.{_||_};
-ghost use Rattle.table.specs.Table.{at};
 ghost use Rattle.table.specs.Words.{tableOf};
-ghost use Rattle.nodes.specs.Place.{inTree};
 ghost use Rattle.rules.specs.Trees.{seen};
 ghost use Rattle.rules.specs.Refusals.{isNoNode, isNotOuter, isOutside, isMinusNode, isGrowing, isNotExpandable};
 

@@ -9,12 +9,12 @@ use Rattle.nodes.specs.declared.place.Place.{Place}
 use Rattle.nodes.specs.Place.{place}
 use Rattle.record.specs.declared.request.Conflict.{Conflict}
 use Rattle.record.specs.Writing.{Out}
-use Rattle.rules.specs.Act.{Act, World, run, _then_, skip, choose}
-use Rattle.rules.specs.Trees.{sameTree, meeting, loaded}
+use Rattle.rules.specs.Act.{Act, World, run, _then_, skip}
+use Rattle.rules.specs.Trees.{sameTree, loaded}
 use Rattle.rules.specs.Matching.{temporaryMatch, augmentWholeTree}
 use Rattle.rules.specs.Blossom.{lacksBlossomSlot, createBlossom}
 use Rattle.rules.specs.Conflict.{conflictLink, blossomInTree, treesMeet, rowOf, resolved, conflict}
-use Rattle.rules.proofs.Runs.{world, runs, run-then, run-look, run-read, run-change, run-skip, run-yes, run-no}
+use Rattle.rules.proofs.Runs.{world, runs, run-then, run-look, run-read, run-skip, run-yes, run-no}
 use Rattle.trees.specs.Meeting.{meetByDepths}
 use Rattle.table.proofs.Laws.{Full}
 use Rattle.trees.proofs.Meets.{meet-by-depths}

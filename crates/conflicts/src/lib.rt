@@ -1,5 +1,5 @@
-// Conflict on a table that is known to be sound: the refusals after the first, in 01's order, and then the
-// rule; from a position of the lent bytes on. What is promised holds on any table, but it is 01's answer on a sound one only.
+// Conflict on a table that is known to be sound: the refusals after the first, in 01's order, and then the rule; from a position
+// of the lent bytes on. What is promised holds on any table, but it is 01's answer on a sound one only.
 mod resolving;
 
 use record::Conflict;

@@ -1,8 +1,7 @@
 -- Each function, one step at a time: its premises in the code's order, its own promise as the conclusion.
-use mathlib.Core.Path.{_≡_, refl, sym, ap, _∙_}
+use mathlib.Core.Path.{_≡_, ap, _∙_}
 use mathlib.Core.Bool.{true, false}
-use Prim.Native.Nat.{ℕ, suc, _+_, _≤_, _<_, max}
-use native.Mathlib.Omega.{arith}
+use Prim.Native.Nat.{ℕ, _+_, _≤_, _<_, max}
 use native.Mathlib.Numerals.{add-one}
 use borrow.Author.Tests.{lt-ltb, le-ltb}
 use Rattle.slot.specs.declared.state.State.the-variants as S
@@ -11,15 +10,14 @@ use Rattle.slot.specs.Slot.{Link, Slot, newNode}
 use Rattle.table.specs.Table.{Table, at, put}
 use Rattle.counts.specs.Counts.{withDefects}
 use Rattle.nodes.specs.Nodes.{present}
-use Rattle.record.specs.declared.answer.Record.{Record}
 use Rattle.record.specs.declared.answer.Speed.the-variants as P
 use Rattle.record.specs.Records.{answerBytes}
 use Rattle.record.specs.Writing.{Out, written}
-use Rattle.rules.specs.Act.{World, run, alter, choose, speed}
+use Rattle.rules.specs.Act.{run, alter, choose, speed}
 use Rattle.rules.specs.Slots.{withFirstChild, shaped}
 use Rattle.rules.specs.Trees.{loaded}
 use Rattle.rules.specs.Conflict.{leafBelow, minusBelow, rootAbove, growTree, hangPair}
-use Rattle.rules.proofs.Runs.{world, runs, choose-yes, choose-no}
+use Rattle.rules.proofs.Runs.{world, runs}
 
 module _ (t : Table) (n : ℕ) where
   pub load-blossom : (b : ℕ) → b ≡ t .begin → b ≤ n → t ≡ loaded n t

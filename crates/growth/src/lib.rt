@@ -6,12 +6,9 @@ use slot::Node;
 use slot::State;
 use table::Table;
 ghost use mathlib.Core.Path.{_≡_};
-ghost use Rattle.slot.specs.declared.state.State.the-variants as S;
-ghost use Rattle.slot.specs.Number.{none};
 ghost use Rattle.slot.specs.Slot.{linkOf};
 ghost use Rattle.table.specs.Words.{tableOf};
 ghost use Rattle.rules.specs.Act.{worldOf, run, alter};
-ghost use Rattle.rules.specs.Slots.{withFirstChild, withState};
 ghost use Rattle.rules.specs.Trees.{loaded};
 ghost use Rattle.rules.specs.Conflict.{leafBelow, minusBelow, rootAbove, growTree, hangPair};
 

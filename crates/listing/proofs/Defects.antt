@@ -1,10 +1,9 @@
 -- The present defects, counted slot by slot.
-use mathlib.Core.Path.{_≡_, refl, sym, ap, _∙_}
+use mathlib.Core.Path.{_≡_}
 use mathlib.Core.Bool.{Bool, true, false, _&&_}
-use Prim.Native.Nat.{ℕ, suc, _+_, _≤_, _<_}
+use Prim.Native.Nat.{ℕ, _+_, _≤_}
 use native.Mathlib.Omega.{arith}
 use native.Mathlib.Numerals.{add-one}
-use lib.Dec.{leb, ltb}
 use borrow.Author.Tests.{leb-true, leb-false, lt-ltb, le-ltb}
 use Rattle.lists.specs.Choice.{pick}
 use Rattle.table.specs.Table.{Table}
@@ -25,13 +24,12 @@ module _ (t : Table) (n : ℕ) where
   absent-is-none b p = rw (lt-ltb n (t .begin) (leb-false (t .begin) n b), p)
 
   pub one-more :
-      (m i found : ℕ)
-      → found ≡ defectsBelow i t
-      → n ≡ i
+      (m found : ℕ)
+      → found ≡ defectsBelow n t
       → m ≡ defectAt t n
-      → found + m ≡ defectsBelow (i + 1) t
+      → found + m ≡ defectsBelow (n + 1) t
   unfolding defectsBelow
-  one-more m i found p e q = rw (p, q, e, add-one)
+  one-more m found p q = rw (p, q, add-one)
 
   -- so the count never passes its type
   pub at-most-one : (m : ℕ) → m ≡ defectAt t n → m ≤ 1

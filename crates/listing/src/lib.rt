@@ -5,7 +5,6 @@ use refusal::Refusal;
 use slot::Node;
 use table::Table;
 ghost use mathlib.Core.Path.{_≡_};
-ghost use Prim.Native.Nat.{_<_};
 ghost use Rattle.table.specs.Words.{tableOf};
 ghost use Rattle.record.specs.declared.request.Request.the-variants as Q;
 ghost use Rattle.record.specs.Writing.{outOf, writeAll};
@@ -13,22 +12,14 @@ ghost use Rattle.rules.specs.Listing.{listing};
 ghost use Rattle.rules.specs.Refusals.{presentDefects, defectAt};
 ghost use Rattle.outcome.specs.Handled.{Handled};
 
-fn narrow(i: usize) -> u16
-    requires { ⌜ i < 65536 ⌝ }
-    ensures { λ r. ⌜ r ≡ i ⌝ }
-{
-    i as u16
-}
-
 // The whole listing, slot after slot.
 fn list_all(t: &Table, out: &mut [u8], pos: usize) -> usize
     ensures { λ r. ⌜ outOf (now (out .exit)) r ≡ writeAll (outOf (now (out .entry)) pos) (listing (tableOf (now (t .entry)))) ⌝ }
 {
     let mut p = pos;
-    let mut i: usize = 0;
+    let mut i: u16 = 0;
     while i < 256 {
-        let n = narrow(i);
-        p = slot_listing::list_slot(t, out, p, Node(n));
+        p = slot_listing::list_slot(t, out, p, Node(i));
         i += 1;
     }
     p
@@ -39,10 +30,9 @@ fn present_defects(t: &Table) -> usize
     ensures { λ r. ⌜ r ≡ presentDefects (tableOf (now (t .entry))) ⌝ }
 {
     let mut found: usize = 0;
-    let mut i: usize = 0;
+    let mut i: u16 = 0;
     while i < 256 {
-        let n = narrow(i);
-        found += defect_at(t, Node(n));
+        found += defect_at(t, Node(i));
         i += 1;
     }
     found

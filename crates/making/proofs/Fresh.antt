@@ -5,7 +5,7 @@ use native.Mathlib.Omega.{arith}
 use native.Mathlib.Decide.{ℕ-discrete}
 use native.Mathlib.Numerals.{add-one}
 use mathlib.Core.List.{List}
-use lib.ListN.{length, replicate, length-replicate, getD-replicate}
+use lib.ListN.{length-replicate, getD-replicate}
 use borrow.Author.Tests.{le-leb, lt-leb}
 use Rattle.refusal.specs.declared.Answer.the-variants.{Done, Refused}
 use Rattle.refusal.specs.declared.Refusal.the-variants.{BadBegin}
@@ -18,14 +18,13 @@ use Rattle.counts.specs.Counts.{withBegin, withDefects, withBlossoms}
 use Rattle.counts.specs.Making.{fresh, emptied, cleared, Made}
 
 pub cleared-step :
-    (t t₁ t₂ : Table) (s : Slot) (n k : ℕ)
+    (t t₁ t₂ : Table) (s : Slot) (n : ℕ)
     → t₁ ≡ cleared n t
-    → k ≡ n
     → s ≡ emptySlot
-    → t₂ ≡ put t₁ k s
+    → t₂ ≡ put t₁ n s
     → t₂ ≡ cleared (n + 1) t
 unfolding cleared
-cleared-step t t₁ t₂ s n k p e q r = r ∙ rw (e, p, q, add-one)
+cleared-step t t₁ t₂ s n p q r = r ∙ rw (p, q, add-one)
 
 cleared-full : (n : ℕ) (t : Table) → Full t → Full (cleared n t)
 unfolding cleared

@@ -4,25 +4,16 @@ use refusal::Refusal;
 use slot::Node;
 use table::Table;
 ghost use mathlib.Core.Path.{_≡_};
-ghost use Prim.Native.Nat.{_<_};
 ghost use Rattle.table.specs.Words.{tableOf};
 ghost use Rattle.counts.specs.Making.{emptied, cleared, Made};
-
-fn narrow(i: usize) -> u16
-    requires { ⌜ i < 65536 ⌝ }
-    ensures { λ r. ⌜ r ≡ i ⌝ }
-{
-    i as u16
-}
 
 // Empties every slot.
 fn clear_slots(t: &mut Table)
     ensures { λ _. ⌜ tableOf (now (t .exit)) ≡ cleared 256 (tableOf (now (t .entry))) ⌝ }
 {
-    let mut i: usize = 0;
+    let mut i: u16 = 0;
     while i < 256 {
-        let n = narrow(i);
-        storing::store(t, Node(n), slot::value::empty_slot());
+        storing::store(t, Node(i), slot::value::empty_slot());
         i += 1;
     }
 }

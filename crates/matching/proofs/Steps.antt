@@ -1,15 +1,15 @@
 -- Each function of augmenting, one step at a time: its premises in the code's order, its own promise as the conclusion.
-use mathlib.Core.Path.{_≡_, refl, sym, ap, _∙_}
+use mathlib.Core.Path.{_≡_, refl, sym, _∙_}
 use Prim.Native.Nat.{ℕ, zero, suc, _-_}
-use native.Mathlib.Omega.{arith}
+use Rattle.lists.proofs.Budget.{fewer}
 use Rattle.slot.specs.Number.{none}
-use Rattle.slot.specs.Slot.{Link, Slot}
-use Rattle.table.specs.Table.{Table, at, put}
+use Rattle.slot.specs.Slot.{Link}
+use Rattle.table.specs.Table.{Table, at}
 use Rattle.record.specs.Writing.{Out}
 use Rattle.rules.specs.Act.{World, run, alter}
 use Rattle.rules.specs.Slots.{withFirstChild}
 use Rattle.rules.specs.Matching.{temporaryMatch, subtree, matchSiblings, matchSubtree, augmentSubtree, augmentWithin}
-use Rattle.rules.proofs.Runs.{world, runs, run-none, run-some, run-skip, run-then, run-look, run-change}
+use Rattle.rules.proofs.Runs.{world, runs, run-none, run-some, run-skip, run-then, run-look}
 
 pub subtree-step :
     (w w₁ w₂ : World) (n k child grand : ℕ) (l : Link)
@@ -43,9 +43,8 @@ module _ (w : World) (n : ℕ) where
   unfolding matchSiblings matchSubtree
   siblings-step w₁ w₂ zero next h q e₁ e₂ e₃ = absurd (h refl)
   siblings-step w₁ w₂ (suc k) next h q e₁ e₂ e₃ =
-      let f : suc k - 1 ≡ k = omega arith in
-      let e₂′ = rw (f, run-look) at e₂ in
-      let e₃′ = rw (f, e₁) at e₃ in
+      let e₂′ = rw (fewer k, run-look) at e₂ in
+      let e₃′ = rw (fewer k, e₁) at e₃ in
       e₃′ ∙ rw (run-some w n _ q, run-look, run-then, e₂′)
 
 pub augment-subtree-step :
@@ -88,7 +87,6 @@ module _ (w : World) (n : ℕ) where
   unfolding augmentWithin
   augment-step w₁ w₂ w₃ zero parent above l h e₁ e₂ q e₃ e₄ e₅ e₆ = absurd (h refl)
   augment-step w₁ w₂ w₃ (suc k) parent above l h e₁ e₂ q e₃ e₄ e₅ e₆ =
-      let f : suc k - 1 ≡ k = omega arith in
-      let e₅′ = rw f at e₅ in
+      let e₅′ = rw (fewer k) at e₅ in
       rw (run-then, ← e₁, run-look, ← e₂)
       (e₆ ∙ rw (e₅′, e₃, e₄) (sym (run-some w₁ parent _ q ∙ rw (run-look, run-then))))

@@ -1,5 +1,5 @@
 -- A test of a slot's state, decided by the case that a `match` took.
-use mathlib.Core.Path.{_≡_, sym, ap, _∙_}
+use mathlib.Core.Path.{_≡_}
 use mathlib.Core.Bool.{Bool}
 use Rattle.slot.specs.declared.state.State.{State}
 use Rattle.slot.specs.Slot.{Slot}

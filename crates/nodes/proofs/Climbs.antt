@@ -1,9 +1,10 @@
 -- Each climb, one step at a time, as the code's loops take it.
-use mathlib.Core.Path.{_≡_, refl, sym, ap, _∙_}
-use mathlib.Core.Bool.{Bool, true, false}
+use mathlib.Core.Path.{_≡_, refl}
+use mathlib.Core.Bool.{true, false}
 use Prim.Native.Nat.{ℕ, zero, suc, _-_, _<_}
 use native.Mathlib.Omega.{arith}
 use borrow.Author.Tests.{eq-eqb, ne-eqb}
+use Rattle.lists.proofs.Budget.{fewer}
 use Rattle.table.specs.Table.{Table, at}
 use Rattle.nodes.specs.Nodes.{inner}
 use Rattle.nodes.specs.Climb.{insideWithin, outerBlossomWithin, secondOuterWithin}
@@ -32,7 +33,7 @@ module _ (t : Table) (x n : ℕ) where
       → insideWithin (k - 1) t x m ≡ insideWithin k t x n
   unfolding insideWithin
   inside-more zero m d h q e = absurd (h refl)
-  inside-more (suc k) m d h q e = let f : suc k - 1 ≡ k = omega arith in rw (ne-eqb n x d, q, f, e)
+  inside-more (suc k) m d h q e = rw (ne-eqb n x d, q, fewer k, e)
 
 module _ (t : Table) (n : ℕ) where
   pub outer-spent : (k : ℕ) → k ≡ 0 → outerBlossomWithin k t n ≡ n
@@ -52,7 +53,7 @@ module _ (t : Table) (n : ℕ) where
       → outerBlossomWithin (k - 1) t m ≡ outerBlossomWithin k t n
   unfolding outerBlossomWithin
   outer-more zero m h q e = absurd (omega arith)
-  outer-more (suc k) m h q e = let f : suc k - 1 ≡ k = omega arith in rw (q, f, e)
+  outer-more (suc k) m h q e = rw (q, fewer k, e)
 
   module _ (below : ℕ) where
     pub second-spent : (k : ℕ) → k ≡ 0 → secondOuterWithin k t below n ≡ below
@@ -72,4 +73,4 @@ module _ (t : Table) (n : ℕ) where
         → secondOuterWithin (k - 1) t n m ≡ secondOuterWithin k t below n
     unfolding secondOuterWithin
     second-more zero m h q e = absurd (omega arith)
-    second-more (suc k) m h q e = let f : suc k - 1 ≡ k = omega arith in rw (q, f, e)
+    second-more (suc k) m h q e = rw (q, fewer k, e)

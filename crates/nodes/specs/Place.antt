@@ -1,5 +1,4 @@
 -- What an outer node is to the conflict table: free, matched to a peer, matched to a virtual vertex, or in a tree.
-use Prim.Native.Nat.{ℕ}
 use mathlib.Core.Bool.{Bool, not, _||_}
 use lib.Dec.{eqb}
 use Rattle.lists.specs.Choice.{pick}

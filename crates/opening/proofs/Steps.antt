@@ -11,7 +11,8 @@ use Rattle.rules.specs.Slots.{next}
 use Rattle.rules.specs.Matching.{temporaryMatch}
 use Rattle.rules.specs.Expansion.{stepsTo, matchChain, attachDown, attachUp, ringOpened}
 use Rattle.rules.proofs.Runs.{runs, run-skip}
-use Rattle.attaching.proofs.Steps.{fewer, run-true, run-false}
+use Rattle.lists.proofs.Budget.{fewer}
+use Rattle.attaching.proofs.Steps.{run-true, run-false}
 
 -- ---- along the ring
 

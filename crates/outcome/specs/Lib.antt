@@ -1,1 +1,4 @@
 pub mod Handled
+pub mod Call
+pub mod Tape
+pub mod Numbered

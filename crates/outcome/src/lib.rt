@@ -1,4 +1,4 @@
-// What a call answers on a table that is known to be sound, in specs/; and the room that it has.
+// What each call promises, and what it answers on a table that is known to be sound, in specs/; and the room that it has.
 ghost use mathlib.Core.Path.{_≡_};
 ghost use Prim.Native.Nat.{_-_};
 ghost use lib.ListN.{length};

@@ -3,8 +3,8 @@ use mathlib.Core.Path.{_≡_, refl, sym, _∙_}
 use mathlib.Core.Bool.{true, false}
 use mathlib.Core.List.{[], _∷_}
 use Prim.Native.Nat.{ℕ, zero, suc, _-_}
-use native.Mathlib.Omega.{arith}
 use borrow.Author.Tests.{eq-eqb, ne-eqb}
+use Rattle.lists.proofs.Budget.{fewer}
 use Rattle.slot.specs.Slot.{Link}
 use Rattle.table.specs.Table.{Table, at}
 use Rattle.nodes.specs.Nodes.{isBlossom, outer}
@@ -56,9 +56,8 @@ module _ (t : Table) (o : Out) where
   unfolding pairListed insideListed
   pair-step zero n peer l o₁ o₂ o₃ r h p q s e = absurd (h refl)
   pair-step (suc k) n peer l o₁ o₂ o₃ r h p q s e =
-      let f : suc k - 1 ≡ k = omega arith in
-      let p′ = rw f at p in
-      let q′ = rw f at q in
+      let p′ = rw (fewer k) at p in
+      let q′ = rw (fewer k) at q in
       e ∙ rw (s, writeAll-append, writeAll-append, ← p′, ← q′, one-written)
 
   pub levels-spent : (k b n : ℕ) → k ≡ 0 → o ≡ writeAll o (levelsListed k b n t)
@@ -82,8 +81,7 @@ module _ (t : Table) (o : Out) where
   unfolding levelsListed choose
   levels-last zero b n s up o₁ h g e p u d = absurd (h refl)
   levels-last (suc k) b n s up o₁ h g e p u d =
-      let f : suc k - 1 ≡ k = omega arith in
-      let p′ = rw (f, e) at p in
+      let p′ = rw (fewer k, e) at p in
       let d′ : at t n .parent ≡ b = sym u ∙ d in
       p′ ∙ rw (g, eq-eqb (at t n .parent) b d′, writeAll-append, nothing-written)
 
@@ -100,9 +98,8 @@ module _ (t : Table) (o : Out) where
   unfolding levelsListed choose
   levels-more zero b n s up o₁ o₂ h g e p u d q = absurd (h refl)
   levels-more (suc k) b n s up o₁ o₂ h g e p u d q =
-      let f : suc k - 1 ≡ k = omega arith in
-      let p′ = rw (f, e) at p in
-      let q′ = rw (f, u) at q in
+      let p′ = rw (fewer k, e) at p in
+      let q′ = rw (fewer k, u) at q in
       let d′ : at t n .parent ≡ b → ⊥ = λ z. d (u ∙ z) in
       q′ ∙ rw (p′, g, ne-eqb (at t n .parent) b d′, writeAll-append)
 
@@ -128,7 +125,6 @@ module _ (t : Table) (o : Out) where
   unfolding ringListed choose
   ring-step zero touched n peer after l o₁ o₂ h d e m p a q = absurd (h refl)
   ring-step (suc k) touched n peer after l o₁ o₂ h d e m p a q =
-      let f : suc k - 1 ≡ k = omega arith in
-      let p′ = rw (f, e, m) at p in
-      let q′ = rw (f, a, e) at q in
+      let p′ = rw (fewer k, e, m) at p in
+      let q′ = rw (fewer k, a, e) at q in
       q′ ∙ rw (p′, ne-eqb n touched d, writeAll-append)

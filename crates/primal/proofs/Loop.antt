@@ -10,6 +10,7 @@ use native.Mathlib.Nat.{le-refl}
 use lib.ListN.{length, take, drop, length-drop}
 use lib.Seq.{take-all}
 use borrow.Author.Tests.{eq-eqb, ne-eqb, lt-ltb, le-ltb}
+use Rattle.lists.proofs.Budget.{fewer}
 use Rattle.table.specs.Words.{tableOf}
 use Rattle.refusal.specs.declared.Refusal.{Refusal}
 use Rattle.record.specs.declared.request.Request.{Request}
@@ -24,7 +25,7 @@ use Rattle.stopping.specs.declared.Next.{Next}
 use Rattle.stopping.specs.declared.Next.the-variants as N
 use Rattle.stopping.specs.Next.{nextOf}
 use Rattle.stopping.proofs.Steps as next
-use Rattle.primal.specs.Tape.{Tape}
+use Rattle.outcome.specs.Tape.{Tape}
 
 -- what `&l[n..]` is
 pub tail : (l : List ℕ) (n : ℕ) → take (length l - n) (drop n l) ≡ drop n l
@@ -74,9 +75,8 @@ module _ (w : World) (rest : List ℕ) (handled : ℕ) where
     unfolding runFrom
     one-more zero m size q w₁ rest₁ h e l r u v = absurd (h refl)
     one-more (suc k) m size q w₁ rest₁ h e l r u v =
-        let f : suc k - 1 ≡ k = omega arith in
         let l′ : 4102 ≤ room w = rw e at l in
-        rw (ne-eqb (length rest) 0 more, le-ltb (room w) 4102 l′, r, u, v, f)
+        rw (ne-eqb (length rest) 0 more, le-ltb (room w) 4102 l′, r, u, v, fewer k)
 
 -- ---- what comes next, told by `what_next`, and what the run does then
 

@@ -26,7 +26,7 @@ use Rattle.rules.proofs.Runs.{world, run-skip}
 use Rattle.rules.specs.Sound.{sound}
 use Rattle.outcome.specs.Handled.{Outcome, laterVerdict}
 use Rattle.outcome.proofs.Verdicts.{sound-verdict}
-use Rattle.primal.specs.Tape.{posAfter, Serves}
+use Rattle.primal.specs.Serving.{posAfter, Serves}
 
 -- an act, and one record more
 abbrev pub ended : World → Act → ℕ → World

@@ -20,8 +20,8 @@ ghost use Rattle.record.specs.Records.{requestBytes, answerBytes};
 ghost use Rattle.record.specs.Reading as reading;
 ghost use Rattle.record.specs.Writing.{outOf, wroteOf, wrote};
 ghost use Rattle.rules.specs.Sound.{sound};
-ghost use Rattle.primal.specs.Call.{Call, Reset};
-ghost use Rattle.primal.specs.Tape.{Tape};
+ghost use Rattle.outcome.specs.Call.{Call, Reset};
+ghost use Rattle.outcome.specs.Tape.{Tape};
 
 // Making: a fresh table with this begin in the lent words, or refusal 13.
 pub fn make(t: &mut Table, begin: u16) -> Answer

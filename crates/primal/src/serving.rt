@@ -12,7 +12,7 @@ ghost use Rattle.record.specs.declared.request.Request.the-variants as Q;
 ghost use Rattle.record.specs.declared.answer.Record.the-variants as R;
 ghost use Rattle.record.specs.Records.{answerBytes};
 ghost use Rattle.record.specs.Writing.{outOf, written};
-ghost use Rattle.primal.specs.Tape.{posAfter, Serves};
+ghost use Rattle.primal.specs.Serving.{posAfter, Serves};
 
 // The end record: 0, or the refusal's number.
 fn end(out: &mut [u8], pos: usize, answer: Answer) -> usize

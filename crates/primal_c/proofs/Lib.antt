@@ -1,3 +1,2 @@
--- What the proofs of several calls use, and what a run leaves unread.
+-- What the proofs of several calls use.
 mod Telling
-pub mod Rest

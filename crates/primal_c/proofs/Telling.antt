@@ -1,5 +1,5 @@
 -- An answer told in numbers keeps the promise of the call that gave it.
-use mathlib.Core.Path.{_≡_, refl, sym, ap, _∙_}
+use mathlib.Core.Path.{_≡_, refl, ap, _∙_}
 use mathlib.Core.List.{List, []}
 use mathlib.Core.Bool.{Bool, true, false}
 use Prim.Native.Nat.{ℕ}
@@ -20,10 +20,10 @@ use Rattle.rules.specs.Act.{Act, World, worldOf, run, change}
 use Rattle.rules.specs.Calls.{actOf, verdict}
 use Rattle.rules.specs.Run.{Ran, unsound, ran, runTape}
 use Rattle.outcome.specs.Handled.{Outcome}
-use Rattle.primal.specs.Tape.{HandsOut, Tape}
-use Rattle.primal.specs.Call.{Call, Reset}
+use Rattle.outcome.specs.Tape.{HandsOut, Tape}
+use Rattle.outcome.specs.Call.{Call, Reset}
 use Rattle.numbered.specs.Told.{Told}
-use Rattle.primal_c.specs.Numbered.{Numbered, Called, WasReset, WasMade, RanTape, Run}
+use Rattle.outcome.specs.Numbered.{Numbered, Called, WasReset, WasMade, RanTape, Run}
 
 told-by :
     (v : Verdict) (act : Act) (words bytes : List ℕ) (a : Answer) (words′ bytes′ : List ℕ) (number written : ℕ)

@@ -7,7 +7,7 @@ ghost use Rattle.table.specs.Words.{tableOf};
 ghost use Rattle.record.specs.Records.{conflictFrom, virtualFrom, expansionFrom};
 ghost use Rattle.record.specs.declared.request.Request.the-variants as Q;
 ghost use Rattle.rules.specs.Sound.{sound};
-ghost use Rattle.primal_c.specs.Numbered.{Called, WasReset, WasMade, oneIf, Run};
+ghost use Rattle.outcome.specs.Numbered.{Called, WasReset, WasMade, oneIf, Run};
 
 #[no_mangle]
 pub extern "C" fn boltclover_make(table: &mut Table, begin: u16) -> u16

@@ -23,7 +23,7 @@ use Rattle.rules.specs.Calls.{actOf, verdict, answered}
 use Rattle.kept.proofs.Kept.{answered-keeps-sound}
 use Rattle.outcome.specs.Handled.{Outcome}
 use Rattle.outcome.proofs.Verdicts.{unsound-verdict}
-use Rattle.primal.specs.Call.{Call}
+use Rattle.outcome.specs.Call.{Call}
 
 -- answered, table and bytes
 pub record Done (q : Request) (words bytes : List ℕ) (r : Answer) (words′ bytes′ : List ℕ) : Type 0 where

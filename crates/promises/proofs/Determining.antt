@@ -29,10 +29,10 @@ use Rattle.kept.proofs.Resetting.{fresh-at}
 use Rattle.kept.proofs.Kept.{run-keeps-sound}
 use Rattle.sound_facts.proofs.SoundFacts.{sound→facts}
 use Rattle.outcome.specs.Handled.{Outcome}
-use Rattle.primal.specs.Call.{Call}
+use Rattle.outcome.specs.Call.{Call}
 use Rattle.promises.specs.Lent.{Lent}
 use Rattle.promises.proofs.Accepted.{act-sound}
-use Rattle.primal.specs.Tape.{HandsOut, Tape}
+use Rattle.outcome.specs.Tape.{HandsOut, Tape}
 
 -- the words of a sound table are determined by it
 pub same-words : (words words′ : List ℕ) → Lent words → Lent words′ → tableOf words ≡ tableOf words′ → T (sound (tableOf words)) → words ≡ words′

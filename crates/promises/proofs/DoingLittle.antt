@@ -21,11 +21,11 @@ use Rattle.record.specs.Records.{requestBytes, answerBytes}
 use Rattle.record.specs.Reading as reading
 use Rattle.record.specs.Writing.{outOf, placed, written, writeAll}
 use Rattle.rules.specs.Run.{Ran, unsound, ran, runTape}
-use Rattle.primal.specs.Tape.{HandsOut, Tape}
+use Rattle.outcome.specs.Tape.{HandsOut, Tape}
 use Rattle.rules.specs.Act.{World, worldOf}
 use Rattle.rules.specs.Calls.{actOf, verdict}
 use Rattle.rules.proofs.Script.{join, all-rules}
-use Rattle.primal.specs.Call.{Call}
+use Rattle.outcome.specs.Call.{Call}
 use Rattle.refusal.specs.Refusal.{answerWritten}
 use Rattle.promises.proofs.Accepted.{done}
 

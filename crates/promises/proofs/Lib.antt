@@ -3,6 +3,8 @@ pub mod Determining
 pub mod Unique
 pub mod UniqueForC
 pub mod RunCounts
+pub mod TapeEnd
+pub mod UnreadRest
 pub mod TwoCalls
 pub mod EitherOrder
 pub mod DoingLittle

@@ -5,7 +5,7 @@ use Prim.Native.Nat.{ℕ}
 use Rattle.rules.specs.Act.{worldOf}
 use Rattle.rules.specs.Run.{Ran, unsound, ran, Ended, runTape, Between}
 use Rattle.rules.proofs.RunCounts.{run-counts}
-use Rattle.primal.specs.Tape.{HandsOut, Tape}
+use Rattle.outcome.specs.Tape.{HandsOut, Tape}
 use Rattle.promises.proofs.Determining.{tape-ran}
 
 module _ (words bytes tape : List ℕ) (stop refusal handled written : ℕ) (rest words′ bytes′ : List ℕ) where

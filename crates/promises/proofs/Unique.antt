@@ -13,8 +13,8 @@ use Rattle.record.specs.declared.request.Reading.{Reading}
 use Rattle.record.specs.Reading as reading
 use Rattle.record.specs.Writing.{Wrote, wroteOf, wrote, outOf}
 use Rattle.rules.specs.Sound.{sound}
-use Rattle.primal.specs.Call.{Call, Reset}
-use Rattle.primal.specs.Tape.{Tape}
+use Rattle.outcome.specs.Call.{Call, Reset}
+use Rattle.outcome.specs.Tape.{Tape}
 use Rattle.promises.specs.Lent.{Lent}
 use Rattle.promises.proofs.Determining.{made-once, call-determined, run-determined}
 

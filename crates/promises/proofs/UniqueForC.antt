@@ -20,10 +20,10 @@ use Rattle.rules.specs.Act.{Act, worldOf}
 use Rattle.rules.specs.Calls.{actOf, verdict}
 use Rattle.rules.specs.Run.{Ran, unsound, ran, runTape}
 use Rattle.outcome.specs.Handled.{Outcome}
-use Rattle.primal.specs.Tape.{HandsOut}
+use Rattle.outcome.specs.Tape.{HandsOut}
 use Rattle.promises.specs.Lent.{Lent}
 use Rattle.promises.proofs.Unique.{make-once, call-once, run-once}
-use Rattle.primal_c.specs.Numbered.{Numbered, Called, WasReset, WasMade, RanTape, Run}
+use Rattle.outcome.specs.Numbered.{Numbered, Called, WasReset, WasMade, RanTape, Run}
 
 -- ---- requests
 

@@ -10,7 +10,7 @@ use Rattle.record.specs.declared.request.Request.{Request}
 use Rattle.rules.specs.Calls.{verdict}
 use Rattle.rules.specs.Concerns.{concerns, isMaking}
 use Rattle.rules.specs.Commands.{givesCommands}
-use Rattle.primal.specs.Call.{Call}
+use Rattle.outcome.specs.Call.{Call}
 use Rattle.promises.specs.Lent.{Lent}
 
 -- demand 3's premises: each request is accepted as the words stand, they concern no common node, and they do not both make a blossom

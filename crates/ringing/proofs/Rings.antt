@@ -1,16 +1,13 @@
 -- The steps of the functions that make the ring, in the code's order: for each loop one lemma an exit and one a turn.
 use mathlib.Core.Path.{_≡_, refl, _∙_}
 use Prim.Native.Nat.{ℕ, zero, suc, _-_}
-use native.Mathlib.Omega.{arith}
 use borrow.Author.Tests.{eq-eqb, ne-eqb}
+use Rattle.lists.proofs.Budget.{fewer}
 use Rattle.slot.specs.Slot.{Link, mirror}
 use Rattle.table.specs.Table.{Table, at}
 use Rattle.rules.specs.Act.{choose, alter}
 use Rattle.rules.specs.Slots.{up}
 use Rattle.rules.specs.Blossom.{enclosed, ringUp, ringDown, ringed}
-
-pub fewer : (k : ℕ) → suc k - 1 ≡ k
-fewer k = omega arith
 
 module _ (t : Table) (b m n : ℕ) where
   pub up-spent : (k : ℕ) → k ≡ 0 → t ≡ ringUp k b m n t

@@ -1,7 +1,7 @@
 -- What a request concerns, on a table with trees 2, 0, 1 and 5, 3, 4, the pair 6, 7, node 8 matched to a virtual vertex and the free
 -- blossom 128 of 12, 10, 11.
 use mathlib.Core.Path.{_≡_, refl}
-use mathlib.Core.Bool.{Bool, true, false}
+use mathlib.Core.Bool.{true, false}
 use mathlib.Core.List.{List, [], _∷_}
 use Prim.Native.Nat.{ℕ}
 use Rattle.lists.specs.Choice.{pick}

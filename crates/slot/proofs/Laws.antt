@@ -1,6 +1,6 @@
 -- Marks and states, words and vertices: each way there and back.
 use mathlib.Core.Path.{_≡_, refl}
-use Prim.Native.Nat.{ℕ, zero, suc, _+_, _*_, _%_, _/_, _≤_, _<_}
+use Prim.Native.Nat.{ℕ, zero, suc, _%_, _/_, _≤_, _<_}
 use native.Mathlib.Omega.{arith}
 use Rattle.slot.specs.declared.state.State.{State}
 use Rattle.slot.specs.declared.state.State.the-variants.{Empty, Inner, Stay, Grow, Shrink, Damaged}

@@ -1,9 +1,9 @@
 -- The laws of slots and stores: all that is used of `at` and `put` anywhere else.
-use mathlib.Core.Path.{_≡_, refl, sym, ap, _∙_}
+use mathlib.Core.Path.{_≡_, sym, _∙_}
 use mathlib.Core.Logic.{_≢_}
 use Prim.Native.Nat.{ℕ, _≤_, _<_}
 use native.Mathlib.Omega.{arith}
-use lib.ListN.{length, getD, set, length-set, List·getD-eq-default}
+use lib.ListN.{length, length-set, List·getD-eq-default}
 use lib.Seq.{getD-set-same, getD-set-other, set-set, set-comm, set-out, set-getD, ext-getD}
 use Rattle.slot.specs.Slot.{Slot, emptySlot}
 use Rattle.table.specs.Table.{Table, at, put}

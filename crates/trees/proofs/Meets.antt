@@ -1,15 +1,13 @@
 -- Where two nodes are in one tree, the node that the depths lead to is the first that both upward paths share.
 use mathlib.Core.Path.{_≡_, refl, sym, ap, _∙_}
 use mathlib.Core.Logic.{_≢_, _⊎_, inl, inr}
-use mathlib.Core.Bool.{true, false, not, _&&_, _||_, true≢false}
+use mathlib.Core.Bool.{true, false, true≢false}
 use mathlib.Core.List.{List, [], _∷_}
 use Prim.Native.Nat.{ℕ, zero, suc, _-_, _+_, _<_, _≤_}
 use native.Mathlib.Omega.{arith}
 use native.Mathlib.Decide.{ℕ-discrete, decLt}
 use lib.ListN.{length}
-use lib.Dec.{eqb}
 use borrow.Author.Tests.{eq-eqb, ne-eqb, eqb-true}
-use Rattle.lists.specs.Choice.{pick}
 use Rattle.slot.specs.Number.{none}
 use Rattle.slot.specs.Slot.{Slot}
 use Rattle.table.specs.Table.{Table, at}
@@ -17,11 +15,12 @@ use Rattle.table.specs.Words.{tableOf}
 use Rattle.table.proofs.Laws.{Full, at-out}
 use Rattle.table.proofs.WordsOfSlots.{slots-length}
 use Rattle.rules.specs.Act.{choose}
-use Rattle.rules.specs.Slots.{up, isNone, isSome}
+use Rattle.rules.specs.Slots.{up}
 use Rattle.rules.specs.Walk.{walk, isIn, firstShared}
 use Rattle.rules.specs.Trees.{rootWithin, root, sameTree, upward, meeting}
 use Rattle.trees.specs.Meeting.{depthWithin, depth, meetWithin, stepsTogether, meetByDepths}
-use Rattle.trees.proofs.Steps.{fewer, meet-there, meet-first, meet-second, meet-both}
+use Rattle.lists.proofs.Budget.{fewer}
+use Rattle.trees.proofs.Steps.{meet-there, meet-first, meet-second, meet-both}
 
 -- ---- lists of nodes
 

@@ -1,19 +1,17 @@
 -- Each climb, one step at a time, as the code's loops take it.
-use mathlib.Core.Path.{_≡_, refl, sym, ap, _∙_}
-use mathlib.Core.Bool.{Bool, true, false, not, _&&_}
+use mathlib.Core.Path.{_≡_, refl, _∙_}
+use mathlib.Core.Bool.{false}
 use Prim.Native.Nat.{ℕ, zero, suc, _-_, _+_, _<_, _≤_}
 use native.Mathlib.Omega.{arith}
 use lib.Dec.{eqb}
 use borrow.Author.Tests.{eq-eqb, ne-eqb, lt-ltb, le-ltb}
+use Rattle.lists.proofs.Budget.{fewer}
 use Rattle.slot.specs.Number.{none}
 use Rattle.table.specs.Table.{Table}
 use Rattle.rules.specs.Act.{choose}
 use Rattle.rules.specs.Slots.{up}
 use Rattle.rules.specs.Trees.{rootWithin, sameTree, root}
 use Rattle.trees.specs.Meeting.{depthWithin, depth, meetWithin, stepsTogether, meetByDepths}
-
-pub fewer : (k : ℕ) → suc k - 1 ≡ k
-fewer k = omega arith
 
 module _ (t : Table) (n p : ℕ) (e : p ≡ up t n) where
   pub root-there : (k : ℕ) → p ≡ none → n ≡ rootWithin k t n

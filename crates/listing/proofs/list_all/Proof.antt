@@ -5,7 +5,7 @@ use Rattle.record.specs.Writing.{outOf, writeAll}
 use Rattle.table.specs.Words.{tableOf}
 use lib.ListN.{length}
 use Prim.Native.Nat.{_≤_, _-_}
-use mathlib.Core.Path.{_≡_, refl, sym, _∙_}
+use mathlib.Core.Path.{_≡_, refl, _∙_}
 use Rattle.listing.proofs.list_all.Statement.{statement}
 use Rattle.listing.proofs.list_all.Tie as tie
 
@@ -23,9 +23,8 @@ list-all-spec =
     μ-loop
     (λ c. (refl, search needs, refl))
     (λ c κs. search needs)
-    (λ c κs. search needs)
     (λ c. search needs)
     (λ c. search needs)
-    (λ c. (slots-more _ _ _ _ _ 256 _ (c .before .before .before .before .before .loop-test .taken) (c .before .before .before .before .before .before .loop .inv .0) (c .before .before .before .before .narrow .ensures) (c .before .before .list-slot .ensures), search needs, (c .before .before .list-slot .kept .1 .0) ∙ (c .before .before .before .before .before .before .loop .inv .2)))
+    (λ c. (slots-more _ _ _ _ _ 256 (c .before .before .before .before .loop-test .taken) (c .before .before .before .before .before .loop .inv .0) (c .before .before .list-slot .ensures), search needs, (c .before .before .list-slot .kept .1 .0) ∙ (c .before .before .before .before .before .loop .inv .2)))
     (λ c. (c .before .loop .inv .2))
     (λ c. slots-done _ _ _ _ (c .loop-test .left) (c .before .loop .inv .1) 256 (c .before .loop .inv .0)))

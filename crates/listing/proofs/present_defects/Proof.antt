@@ -23,9 +23,8 @@ present-defects-spec =
     μ-loop
     (λ c. (refl, search needs, search needs))
     (λ c κs. search needs)
-    (λ c κs. search needs)
     (λ c. omega (arith, at-most-one _ _ _ (c .defect-at .ensures)))
     (λ c. search needs)
     (λ c. search needs)
-    (λ c. (one-more _ _ _ _ _ (c .before .before .before .loop .inv .0) (c .before .narrow .ensures) (c .defect-at .ensures), search needs, omega (arith, at-most-one _ _ _ (c .defect-at .ensures))))
+    (λ c. (one-more _ _ _ _ (c .before .before .loop .inv .0) (c .defect-at .ensures), search needs, omega (arith, at-most-one _ _ _ (c .defect-at .ensures))))
     (λ c. let e : (c .before .loop .i) ≡ 256 = omega arith in rw e at (c .before .loop .inv .0)))

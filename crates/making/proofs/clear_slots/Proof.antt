@@ -24,13 +24,11 @@ clear-slots-spec =
     (λ c. (refl, search needs))
     (λ c κs. search needs)
     (λ c κs. search needs)
-    (λ c κs. search needs)
     (λ c. search needs)
     (λ c. search needs)
     (λ c. (
-      cleared-step _ _ _ _ _ _
-          (c .before .before .before .before .before .loop .inv .0)
-          (c .before .before .before .narrow .ensures)
+      cleared-step _ _ _ _ _
+          (c .before .before .before .before .loop .inv .0)
           (c .before .empty-slot .ensures)
           (c .store .ensures),
       search needs,

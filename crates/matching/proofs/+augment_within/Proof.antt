@@ -1,6 +1,5 @@
 use borrow.Author.Needs.{needs}
 use Rattle.matching.proofs.Steps.{augment-spent, augment-root, augment-step}
-use mathlib.Core.Path.{_≡_, refl, sym, _∙_}
 use Prim.Native.Nat.{ℕ, _<_}
 use borrow.Fn.Kinds.{In}
 use borrow.Fn.PlainCycle.{Measures, is, falls, and}

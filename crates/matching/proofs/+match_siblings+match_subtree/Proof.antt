@@ -1,7 +1,6 @@
 use borrow.Author.Needs.{needs}
 use Rattle.matching.proofs.Steps.{subtree-step, siblings-spent, siblings-end, siblings-step}
 use Prim.Native.Nat.{_*_, _+_}
-use mathlib.Core.Path.{_≡_, refl, sym, _∙_}
 use Prim.Native.Nat.{ℕ, _<_}
 use borrow.Fn.Kinds.{In}
 use borrow.Fn.PlainCycle.{Measures, is, falls, and}

@@ -1,7 +1,7 @@
 use borrow.Author.Needs.{needs}
 use Rattle.pair_listing.proofs.Steps.{inside-yes, inside-no, pair-spent, pair-step, levels-spent, levels-outer, levels-last, levels-more, ring-spent, ring-end, ring-step}
 use Prim.Native.Nat.{_*_, _+_}
-use mathlib.Core.Path.{_≡_, refl, sym, _∙_}
+use mathlib.Core.Path.{sym, _∙_}
 use Prim.Native.Nat.{ℕ, _<_}
 use borrow.Fn.Kinds.{In}
 use borrow.Fn.PlainCycle.{Measures, is, falls, and}

@@ -2,9 +2,6 @@ use Rattle.places.proofs.Steps.{place-parent, place-child, place-free, 
 use borrow.Author.Needs.{needs}
 use Rattle.places.proofs.place_of.Statement.{statement}
 use Rattle.places.proofs.place_of.Tie as tie
-use Rattle.places.proofs.place_of.Reads as reads
-use Rattle.places.proofs.place_of.Lts as lts
-use Rattle.table.proofs.get.Reads as get-reads
 
 get-requires : tie.Need-get-requires
 get-requires c κs = search needs

@@ -39,9 +39,35 @@ run-spec =
     (λ c. halted-out _ _ _ _ _ _ _ _ _ _ _ (sym (c .before .before .before .before .before .before .before .before .is-sound .ensures) ∙ not-false _ (c .before .before .before .before .before .before .before .if1 .left)) (c .before .before .before .before .before .before .loop .inv .0) (follows _ _ _ _ _ (c .before .before .before .before .room .ensures) _ _ (c .before .before .before .what-next .ensures) (c .before .number .given .1)))
     (λ c. search needs)
     (λ c κs. search needs)
-    (λ c. read-size _ _ _ ((follows (worldOf (c .before .before .before .before .before .before .before .before .before .before .before .loop .t) (c .before .before .before .before .before .before .before .before .before .before .before .loop .out) (c .before .before .before .before .before .before .before .before .before .before .before .loop .pos)) _ (c .before .before .before .before .before .before .before .before .before .before .before .loop .count) _ _ (c .before .before .before .before .before .before .before .before .before .room .ensures) _ _ (c .before .before .before .before .before .before .before .before .what-next .ensures) (c .before .before .before .before .before .before .request .given .1)) .1))
-    (λ c. read-size _ _ _ ((follows (worldOf (c .before .before .before .before .before .before .before .before .before .before .before .loop .t) (c .before .before .before .before .before .before .before .before .before .before .before .loop .out) (c .before .before .before .before .before .before .before .before .before .before .before .loop .pos)) _ (c .before .before .before .before .before .before .before .before .before .before .before .loop .count) _ _ (c .before .before .before .before .before .before .before .before .before .room .ensures) _ _ (c .before .before .before .before .before .before .before .before .what-next .ensures) (c .before .before .before .before .before .before .request .given .1)) .1))
+    (λ c.
+    let r = c .before .before .before .before .before .before in
+    let l = r .before .before .before .before .before .loop in
+    let f = follows (worldOf (l .t) (l .out) (l .pos)) _ (l .count) _ _ (r .before .before .before .room .ensures) _ _ (r .before .before .what-next .ensures) (r .request .given .1) in
+    read-size _ _ _ (f .1))
+    (λ c.
+    let r = c .before .before .before .before .before .before in
+    let l = r .before .before .before .before .before .loop in
+    let f = follows (worldOf (l .t) (l .out) (l .pos)) _ (l .count) _ _ (r .before .before .before .room .ensures) _ _ (r .before .before .what-next .ensures) (r .request .given .1) in
+    read-size _ _ _ (f .1))
     (λ c. search needs)
-    (λ c. let more = (follows (worldOf (c .before .before .before .before .before .before .before .before .before .before .before .before .loop .t) (c .before .before .before .before .before .before .before .before .before .before .before .before .loop .out) (c .before .before .before .before .before .before .before .before .before .before .before .before .loop .pos)) _ (c .before .before .before .before .before .before .before .before .before .before .before .before .loop .count) _ _ (c .before .before .before .before .before .before .before .before .before .before .room .ensures) _ _ (c .before .before .before .before .before .before .before .before .before .what-next .ensures) (c .before .before .before .before .before .before .before .request .given .1)) .0 in search (needs, more))
-    (λ c. omega (arith, (follows (worldOf (c .before .before .before .before .before .before .before .before .before .before .before .before .loop .t) (c .before .before .before .before .before .before .before .before .before .before .before .before .loop .out) (c .before .before .before .before .before .before .before .before .before .before .before .before .loop .pos)) _ (c .before .before .before .before .before .before .before .before .before .before .before .before .loop .count) _ _ (c .before .before .before .before .before .before .before .before .before .before .room .ensures) _ _ (c .before .before .before .before .before .before .before .before .before .what-next .ensures) (c .before .before .before .before .before .before .before .request .given .1)) .0))
-    (λ c. ((follows _ _ _ _ _ (c .before .before .before .before .before .before .before .before .before .before .room .ensures) _ _ (c .before .before .before .before .before .before .before .before .before .what-next .ensures) (c .before .before .before .before .before .before .before .request .given .1)) .2 _ _ (served-world _ _ _ _ _ _ _ (c .before .before .before .serve .ensures) (c .before .before .before .before .before .before .before .before .before .before .before .before .loop .inv .3)) (tail (c .before .before .before .before .before .before .before .before .before .before .before .before .loop .rest .now) (c .before .before .before .before .before .before .before .request .given .0 .1 .0)) ∙ (c .before .before .before .before .before .before .before .before .before .before .before .before .loop .inv .0), (c .before .before .before .serve .kept .1 .0) ∙ (c .before .before .before .before .before .before .before .before .before .before .before .before .loop .inv .1), omega (arith, (c .before .before .before .before .before .before .before .before .before .before .before .before .loop .inv .2), (follows (worldOf (c .before .before .before .before .before .before .before .before .before .before .before .before .loop .t) (c .before .before .before .before .before .before .before .before .before .before .before .before .loop .out) (c .before .before .before .before .before .before .before .before .before .before .before .before .loop .pos)) _ (c .before .before .before .before .before .before .before .before .before .before .before .before .loop .count) _ _ (c .before .before .before .before .before .before .before .before .before .before .room .ensures) _ _ (c .before .before .before .before .before .before .before .before .before .what-next .ensures) (c .before .before .before .before .before .before .before .request .given .1)) .0), served-sound _ _ _ _ _ _ _ (c .before .before .before .serve .ensures) (c .before .before .before .before .before .before .before .before .before .before .before .before .loop .inv .3))))
+    (λ c.
+    let r = c .before .before .before .before .before .before .before in
+    let l = r .before .before .before .before .before .loop in
+    let f = follows (worldOf (l .t) (l .out) (l .pos)) _ (l .count) _ _ (r .before .before .before .room .ensures) _ _ (r .before .before .what-next .ensures) (r .request .given .1) in
+    let more = f .0 in
+    search (needs, more))
+    (λ c.
+    let r = c .before .before .before .before .before .before .before in
+    let l = r .before .before .before .before .before .loop in
+    let f = follows (worldOf (l .t) (l .out) (l .pos)) _ (l .count) _ _ (r .before .before .before .room .ensures) _ _ (r .before .before .what-next .ensures) (r .request .given .1) in
+    omega (arith, f .0))
+    (λ c.
+    let r = c .before .before .before .before .before .before .before in
+    let l = r .before .before .before .before .before .loop in
+    let f = follows (worldOf (l .t) (l .out) (l .pos)) _ (l .count) _ _ (r .before .before .before .room .ensures) _ _ (r .before .before .what-next .ensures) (r .request .given .1) in
+    let served = c .before .before .before .serve in (
+      f .2 _ _ (served-world _ _ _ _ _ _ _ (served .ensures) (l .inv .3)) (tail (l .rest .now) (r .request .given .0 .1 .0)) ∙ l .inv .0,
+      served .kept .1 .0 ∙ l .inv .1,
+      omega (arith, l .inv .2, f .0),
+      served-sound _ _ _ _ _ _ _ (served .ensures) (l .inv .3),
+    )))

@@ -1,6 +1,6 @@
 use mathlib.Core.Path.{sym, ap, _∙_}
 use borrow.Author.Needs.{needs}
-use Rattle.primal_c.specs.Numbered.{oneIf}
+use Rattle.outcome.specs.Numbered.{oneIf}
 use Rattle.primal_c.proofs.boltclover_sound.Statement.{statement}
 use Rattle.primal_c.proofs.boltclover_sound.Tie as tie
 

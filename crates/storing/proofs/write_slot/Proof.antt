@@ -1,6 +1,6 @@
 use Rattle.slot.specs.Slot.{slotOf}
 use Rattle.table.proofs.WordsOfSlots.{write-slot-step}
-use mathlib.Core.Path.{_≡_, refl, _∙_}
+use mathlib.Core.Path.{_∙_}
 use native.Mathlib.Omega.{arith}
 use lib.ListN.{length-set}
 use borrow.Author.Needs.{needs}

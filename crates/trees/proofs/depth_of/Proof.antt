@@ -1,5 +1,5 @@
 use borrow.Author.Needs.{needs}
-use mathlib.Core.Path.{_≡_, refl, _∙_}
+use mathlib.Core.Path.{_≡_, refl}
 use Prim.Native.Nat.{_+_}
 use Rattle.table.specs.Words.{tableOf}
 use Rattle.trees.specs.Meeting.{depthWithin}

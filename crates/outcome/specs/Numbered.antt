@@ -43,7 +43,7 @@ WasMade before b number after =
 abbrev pub oneIf : Bool → ℕ
 oneIf b = pick b 1 0
 
--- what a run hands out, the unread rest by its length: that rest is the tape's end (proofs/Rest)
+-- what a run hands out, the unread rest by its length: that rest is the tape's end (promises/proofs/UnreadRest)
 abbrev pub RanTape : Ran → List ℕ → List ℕ → List ℕ → ℕ → ℕ → ℕ → ℕ → ℕ → List ℕ → List ℕ → Type 0
 RanTape unsound words bytes tape number stop handled written unread words′ bytes′ =
     (number ≡ 1)

@@ -1,25 +1,9 @@
 -- What a run hands out, and the words and bytes before and after it.
 use mathlib.Core.Path.{_≡_}
-use mathlib.Core.Bool.{true}
 use mathlib.Core.List.{List}
 use Prim.Native.Nat.{ℕ}
-use Rattle.table.specs.Words.{tableOf}
-use Rattle.refusal.specs.declared.Answer.{Answer}
-use Rattle.refusal.specs.declared.Answer.the-variants.{Done, Refused}
-use Rattle.record.specs.declared.request.Request.{Request}
 use Rattle.rules.specs.Act.{worldOf}
-use Rattle.rules.specs.Sound.{sound}
-use Rattle.rules.specs.Run.{Ran, unsound, ran, stopNumber, served, runTape}
-
--- where the end record goes
-abbrev pub posAfter : ℕ → Answer → ℕ
-posAfter pos (Done p) = p
-posAfter pos (Refused n) = pos
-
--- a request served where the table is sound: its answer, and its end record
-unfoldable pub Serves : Request → ℕ → List ℕ → List ℕ → ℕ → List ℕ → List ℕ → Type 0
-Serves q pos words bytes written words′ bytes′ =
-    sound (tableOf words) ≡ true → worldOf words′ bytes′ written ≡ served q (worldOf words bytes pos)
+use Rattle.rules.specs.Run.{Ran, unsound, ran, stopNumber, runTape}
 
 -- what a run hands out: "On an unsound table: refusal 1 before any stop, nothing handled", and nothing changes; otherwise the
 -- stop's number, "how many records it handled and bytes it wrote", and "the unread rest of the caller's tape"
