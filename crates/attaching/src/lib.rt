@@ -1,6 +1,5 @@
 // The ring nodes that join the tree in the place of a blossom taken apart. P is the one that holds the blossom's touch, C the one
 // that holds its child's peer touch.
-use record::Record;
 use record::Speed;
 use slot::Link;
 use slot::Node;
@@ -36,7 +35,7 @@ fn attach_node(
 ) -> usize
     ensures { λ r. ⌜ worldOf (now (t .exit)) (now (out .exit)) r ≡ run (worldOf (now (t .entry)) (now (out .entry)) pos) (attach (n .0) grow (parent .0) (child .0) (linkOf link)) ⌝ }
 {
-    let end = writing::emit(out, pos, Record::Speed(n, speed_by(grow)));
+    let end = emitting::speed(out, pos, n, speed_by(grow));
     altering::shape(
         t,
         n,

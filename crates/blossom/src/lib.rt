@@ -2,7 +2,6 @@
 pub mod list;
 pub mod transfer;
 
-use record::Record;
 use slot::Link;
 use slot::Node;
 use slot::Slot;
@@ -58,5 +57,5 @@ pub fn create_blossom(
     place_blossom(t, b, m);
     transfer::transfer_two_paths(t, b, m, x, y);
     ringing::connect_ring(t, b, m, x, y, link);
-    writing::emit(out, pos, Record::Create(b))
+    emitting::create(out, pos, b)
 }

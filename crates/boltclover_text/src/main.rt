@@ -3,7 +3,6 @@
 use libc::STDIN_FILENO;
 use libc::STDOUT_FILENO;
 use record::Reading;
-use record::Record;
 use refusal::Answer;
 use table::Table;
 
@@ -27,7 +26,7 @@ fn print_lines(records: &[u8], n: usize) {
 fn print_refusal(number: u16) {
     let mut space = [0u8; 6];
     let out: &mut [u8] = &mut space;
-    let n = writing::emit(out, 0, Record::End(number));
+    let n = emitting::end(out, 0, number);
     print_lines(out, n);
 }
 

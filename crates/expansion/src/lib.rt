@@ -1,6 +1,5 @@
 // Taking a - blossom apart. P is the ring node that holds the blossom's touch, C the one that holds its child's peer touch.
 use record::Expansion;
-use record::Record;
 use refusal::Answer;
 use refusal::Refusal;
 use refusal::Verdict;
@@ -39,7 +38,7 @@ fn expand_blossom(
     let above = s.parent;
     let below = s.first_child;
     let link = s.link;
-    let expanded = writing::emit(out, pos, Record::Expand(b));
+    let expanded = emitting::expand(out, pos, b);
     let end = opening::open_ring(t, out, expanded, p, c, above, below, link);
     dispose_blossom(t, b, p, c, above, below);
     end

@@ -1,5 +1,4 @@
 // Loading a node, and growing a tree by a matched pair (01, "What a conflict does").
-use record::Record;
 use record::Speed;
 use slot::Link;
 use slot::Node;
@@ -75,9 +74,9 @@ pub fn grow_tree(
 ) -> usize
     ensures { λ r. ⌜ worldOf (now (t .exit)) (now (out .exit)) r ≡ run (worldOf (now (t .entry)) (now (out .entry)) pos) (growTree (root .0) (linkOf link) (matched .0) (peer .0)) ⌝ }
 {
-    let p = writing::emit(out, pos, Record::Speed(root, Speed::Grow));
-    let q = writing::emit(out, p, Record::Speed(matched, Speed::Shrink));
-    let end = writing::emit(out, q, Record::Speed(peer, Speed::Grow));
+    let p = emitting::speed(out, pos, root, Speed::Grow);
+    let q = emitting::speed(out, p, matched, Speed::Shrink);
+    let end = emitting::speed(out, q, peer, Speed::Grow);
     set_root(t, root, matched);
     set_minus(t, matched, root, peer, Node(slot::number::NO_NODE), link);
     set_leaf(t, peer, matched);
@@ -96,8 +95,8 @@ pub fn hang_pair(
 ) -> usize
     ensures { λ r. ⌜ worldOf (now (t .exit)) (now (out .exit)) r ≡ run (worldOf (now (t .entry)) (now (out .entry)) pos) (hangPair (plus .0) (linkOf link) (matched .0) (peer .0)) ⌝ }
 {
-    let p = writing::emit(out, pos, Record::Speed(matched, Speed::Shrink));
-    let end = writing::emit(out, p, Record::Speed(peer, Speed::Grow));
+    let p = emitting::speed(out, pos, matched, Speed::Shrink);
+    let end = emitting::speed(out, p, peer, Speed::Grow);
     let first_child = nodes::field::first_child(t, plus);
     altering::set_first_child(t, plus, matched);
     set_minus(t, matched, plus, peer, first_child, link);

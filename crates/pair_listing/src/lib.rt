@@ -2,31 +2,31 @@
 // Every call goes with a budget that falls, so the listing ends on any table.
 use nodes::field;
 use record::Pair;
-use record::Record;
 use slot::Link;
 use slot::Node;
 use table::Table;
 ghost use mathlib.Core.Path.{_≡_};
 ghost use Rattle.slot.specs.Slot.{linkOf};
 ghost use Rattle.table.specs.Words.{tableOf};
+ghost use Rattle.record.specs.declared.answer.Record.the-variants as R;
 ghost use Rattle.record.specs.Writing.{outOf, writeAll};
 ghost use Rattle.rules.specs.Listing.{pairEntry, pairListed, levelsListed, ringListed};
 ghost use Rattle.pair_listing.specs.Inside.{insideListed};
 
 // An entry's record: the touched defects, with their through numbers.
-fn pair_entry(link: Link) -> Record
-    ensures { λ r. ⌜ r ≡ pairEntry (linkOf link) ⌝ }
+fn pair_entry(link: Link) -> Pair
+    ensures { λ r. ⌜ R.Pair r ≡ pairEntry (linkOf link) ⌝ }
 {
     let node = link.touch;
     let peer = link.peer_touch;
     let through = link.through;
     let peer_through = link.peer_through;
-    Record::Pair(Pair {
+    Pair {
         node,
         peer,
         through,
         peer_through,
-    })
+    }
 }
 
 // The pair rule: what is inside the node, then inside its peer, then the entry.
@@ -48,7 +48,7 @@ pub fn list_pair(
     let peer_touch = link.peer_touch;
     let p = list_inside(t, out, pos, n, touch, left - 1);
     let q = list_inside(t, out, p, peer, peer_touch, left - 1);
-    writing::emit(out, q, pair_entry(link))
+    emitting::pair(out, q, pair_entry(link))
 }
 
 // The pairs inside a node that is touched here, if it is a blossom.

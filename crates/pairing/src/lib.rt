@@ -1,5 +1,4 @@
 // Matching two nodes, and matching one to a virtual vertex.
-use record::Record;
 use record::Speed;
 use slot::Link;
 use slot::Node;
@@ -38,8 +37,8 @@ pub fn temporary_match(
 ) -> usize
     ensures { λ r. ⌜ worldOf (now (t .exit)) (now (out .exit)) r ≡ run (worldOf (now (t .entry)) (now (out .entry)) pos) (temporaryMatch (a .0) (linkOf link) (b .0)) ⌝ }
 {
-    let after_a = writing::emit(out, pos, Record::Speed(a, Speed::Stay));
-    let after_b = writing::emit(out, after_a, Record::Speed(b, Speed::Stay));
+    let after_a = emitting::speed(out, pos, a, Speed::Stay);
+    let after_b = emitting::speed(out, after_a, b, Speed::Stay);
     settle(t, a, b, link);
     settle(t, b, a, slot::link::mirrored(link));
     after_b
@@ -63,7 +62,7 @@ pub fn temporary_match_virtual(
         peer_touch: Node(slot::number::NO_NODE),
         peer_through: virtual_vertex,
     };
-    let end = writing::emit(out, pos, Record::Speed(n, Speed::Stay));
+    let end = emitting::speed(out, pos, n, Speed::Stay);
     settle(t, n, Node(slot::number::NO_NODE), link);
     end
 }

@@ -1,7 +1,6 @@
 // One record of a run, on a table that is known to be sound: what the request answers, and then its end (01, "Records").
 use record::Conflict;
 use record::Expansion;
-use record::Record;
 use record::Request;
 use record::VirtualConflict;
 use refusal::Answer;
@@ -19,8 +18,8 @@ fn end(out: &mut [u8], pos: usize, answer: Answer) -> usize
     ensures { λ r. ⌜ outOf (now (out .exit)) r ≡ written (outOf (now (out .entry)) (posAfter pos answer)) (answerBytes (R.End (answerNumber answer))) ⌝ }
 {
     match answer {
-        Answer::Done(after) => writing::emit(out, after, Record::End(0)),
-        Answer::Refused(refusal) => writing::emit(out, pos, Record::End(refusal::number(refusal))),
+        Answer::Done(after) => emitting::end(out, after, 0),
+        Answer::Refused(refusal) => emitting::end(out, pos, refusal::number(refusal)),
     }
 }
 

@@ -1,7 +1,6 @@
 // What the listing has of one slot (01, "The listing").
 use nodes::Place;
 use nodes::field;
-use record::Record;
 use record::VirtualPair;
 use slot::Link;
 use slot::Node;
@@ -11,21 +10,22 @@ ghost use Rattle.slot.specs.Slot.{linkOf};
 ghost use Rattle.table.specs.Table.{at};
 ghost use Rattle.table.specs.Words.{tableOf};
 ghost use Rattle.nodes.specs.declared.place.Place.the-variants.{Paired, Virtual};
+ghost use Rattle.record.specs.declared.answer.Record.the-variants as R;
 ghost use Rattle.record.specs.Writing.{outOf, writeAll};
 ghost use Rattle.rules.specs.Listing.{virtualEntry, matchedListed, slotListed};
 
 // The record of a node matched to a virtual vertex.
-fn virtual_entry(link: Link) -> Record
-    ensures { λ r. ⌜ r ≡ virtualEntry (linkOf link) ⌝ }
+fn virtual_entry(link: Link) -> VirtualPair
+    ensures { λ r. ⌜ R.VirtualPair r ≡ virtualEntry (linkOf link) ⌝ }
 {
     let node = link.touch;
     let through = link.through;
     let virtual_vertex = link.peer_through;
-    Record::VirtualPair(VirtualPair {
+    VirtualPair {
         node,
         through,
         virtual_vertex,
-    })
+    }
 }
 
 // A node matched to a peer is listed at the smaller number of the two.
@@ -45,7 +45,7 @@ fn list_virtual(t: &Table, out: &mut [u8], pos: usize, n: Node) -> usize
     let link = field::link(t, n);
     let touch = link.touch;
     let p = pair_listing::list_inside(t, out, pos, n, touch, 256);
-    writing::emit(out, p, virtual_entry(link))
+    emitting::virtual_pair(out, p, virtual_entry(link))
 }
 
 pub fn list_slot(t: &Table, out: &mut [u8], pos: usize, n: Node) -> usize

@@ -12,4 +12,4 @@ attach-node-spec =
     (λ c κs. search needs)
     (λ c κs. search needs)
     (λ c. search needs)
-    (λ c. attach-step _ _ _ _ _ _ _ _ _ _ _ (c .before .before .before .before .before .before .speed-by .ensures) (c .before .before .before .before .before .emit .ensures) (c .before .state-by .ensures) (c .shape .ensures)))
+    (λ c. attach-step _ _ _ _ _ _ _ _ _ _ _ (c .before .before .before .before .before .before .speed-by .ensures) (c .before .before .before .before .before .speed .ensures) (c .before .state-by .ensures) (c .shape .ensures)))

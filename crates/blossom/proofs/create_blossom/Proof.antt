@@ -13,4 +13,4 @@ create-blossom-spec =
     (λ c κs. search needs)
     (λ c κs. search needs)
     (λ c. search needs)
-    (λ c. create-step _ _ _ _ _ _ _ _ _ _ _ _ _ (c .before .before .before .before .before .before .before .before .before .before .set-count-blossoms .ensures) (c .before .before .before .before .before .before .before .before .place-blossom .ensures) (c .before .before .before .before .before .before .transfer-two-paths .ensures) (c .before .before .before .before .connect-ring .ensures) (c .before .before .emit .ensures)))
+    (λ c. create-step _ _ _ _ _ _ _ _ _ _ _ _ _ (c .before .before .before .before .before .before .before .before .before .before .set-count-blossoms .ensures) (c .before .before .before .before .before .before .before .before .place-blossom .ensures) (c .before .before .before .before .before .before .transfer-two-paths .ensures) (c .before .before .before .before .connect-ring .ensures) (c .before .before .create .ensures)))

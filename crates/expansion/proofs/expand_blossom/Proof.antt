@@ -11,4 +11,4 @@ expand-blossom-spec =
     (λ c κs. search needs)
     (λ c κs. search needs)
     (λ c. search needs)
-    (λ c. blossom-step _ _ _ _ _ _ _ _ _ _ (c .before .before .before .before .before .before .before .before .before .emit .ensures) (c .before .before .before .before .open-ring .ensures) (c .dispose-blossom .ensures)))
+    (λ c. blossom-step _ _ _ _ _ _ _ _ _ _ (c .before .before .before .before .before .before .before .before .before .expand .ensures) (c .before .before .before .before .open-ring .ensures) (c .dispose-blossom .ensures)))

@@ -14,4 +14,4 @@ grow-tree-spec =
     (λ c κs. search needs)
     (λ c κs. search needs)
     (λ c. search needs)
-    (λ c. grow-step _ _ _ _ _ _ _ _ _ _ _ _ (c .before .before .before .before .before .before .before .before .before .before .before .before .before .before .before .before .emit .ensures) (c .before .before .before .before .before .before .before .before .before .before .before .before .emit2 .ensures) (c .before .before .before .before .before .before .before .before .emit3 .ensures) (c .before .before .before .before .set-root .ensures) (c .before .before .set-minus .ensures) (c .set-leaf .ensures)))
+    (λ c. grow-step _ _ _ _ _ _ _ _ _ _ _ _ (c .before .before .before .before .before .before .before .before .before .before .before .before .before .before .before .before .speed .ensures) (c .before .before .before .before .before .before .before .before .before .before .before .before .speed2 .ensures) (c .before .before .before .before .before .before .before .before .speed3 .ensures) (c .before .before .before .before .set-root .ensures) (c .before .before .set-minus .ensures) (c .set-leaf .ensures)))

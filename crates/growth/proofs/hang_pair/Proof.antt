@@ -14,4 +14,4 @@ hang-pair-spec =
     (λ c κs. search needs)
     (λ c κs. search needs)
     (λ c. search needs)
-    (λ c. hang-step _ _ _ _ _ _ _ _ _ _ _ _ (c .before .before .before .before .before .before .before .before .before .before .before .before .before .before .emit .ensures) (c .before .before .before .before .before .before .before .before .before .before .emit2 .ensures) (c .before .before .before .before .before .before .first-child .ensures) (c .before .before .before .before .set-first-child .ensures) (c .before .before .set-minus .ensures) (c .set-leaf .ensures)))
+    (λ c. hang-step _ _ _ _ _ _ _ _ _ _ _ _ (c .before .before .before .before .before .before .before .before .before .before .before .before .before .before .speed .ensures) (c .before .before .before .before .before .before .before .before .before .before .speed2 .ensures) (c .before .before .before .before .before .before .first-child .ensures) (c .before .before .before .before .set-first-child .ensures) (c .before .before .set-minus .ensures) (c .set-leaf .ensures)))

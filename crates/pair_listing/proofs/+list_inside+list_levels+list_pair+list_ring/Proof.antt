@@ -23,7 +23,7 @@ use Rattle.nodes.proofs.field.is_outer.Reads as is-outer-reads
 use Rattle.nodes.proofs.field.link.Reads as link-reads
 use Rattle.nodes.proofs.field.parent.Reads as parent-reads
 use Rattle.nodes.proofs.field.sibling.Reads as sibling-reads
-use Rattle.writing.proofs.emit.Reads as emit-reads
+use Rattle.emitting.proofs.pair.Reads as pair-reads
 use Rattle.pair_listing.proofs.+list_inside+list_levels+list_pair+list_ring.{statement}
 use Rattle.pair_listing.proofs.+list_inside+list_levels+list_pair+list_ring.Tie.{close}
 
@@ -116,8 +116,8 @@ pub +list-inside+list-levels+list-pair+list-ring-spec : {M : Type 1} → stateme
       list-inside.Post,
       pair-entry-reads.Asked,
       pair-entry-reads.Learnt,
-      emit-reads.Asked,
-      emit-reads.Learnt,
+      pair-reads.Asked,
+      pair-reads.Learnt,
     )
     (list-pair-at t)
     list-pair.Post
@@ -129,7 +129,7 @@ pub +list-inside+list-levels+list-pair+list-ring-spec : {M : Type 1} → stateme
     (λ c κs. search needs)
     (λ c κs. search needs)
     (λ c. search needs)
-    (λ c. pair-step _ _ _ _ _ _ _ _ _ _ (c .before .before .before .before .before .before .before .before .before .before .before .before .before .before .before .if1 .left) (c .before .before .before .before .before .before .before .before .before .before .before .list-inside .ensures) (c .before .before .before .before .before .before .before .list-inside2 .ensures) (c .before .before .before .pair-entry .ensures) (c .before .before .emit .ensures)))
+    (λ c. pair-step _ _ _ _ _ _ _ _ _ _ (c .before .before .before .before .before .before .before .before .before .before .before .before .before .before .before .if1 .left) (c .before .before .before .before .before .before .before .before .before .before .before .list-inside .ensures) (c .before .before .before .before .before .before .before .list-inside2 .ensures) (c .before .before .before .pair-entry .ensures) (c .before .before .pair .ensures)))
     λ t. list-ring-lts.spec (
       sibling-reads.Asked,
       sibling-reads.Learnt,

@@ -13,4 +13,4 @@ temporary-match-spec =
     (λ c κs. search needs)
     (λ c κs. search needs)
     (λ c. search needs)
-    (λ c. match-step _ _ _ _ _ _ _ _ _ _ (c .before .before .before .before .before .before .before .before .before .before .before .emit .ensures) (c .before .before .before .before .before .before .before .emit2 .ensures) (c .before .before .before .settle .ensures) (c .before .mirrored .ensures) (c .settle2 .ensures)))
+    (λ c. match-step _ _ _ _ _ _ _ _ _ _ (c .before .before .before .before .before .before .before .before .before .before .before .speed .ensures) (c .before .before .before .before .before .before .before .speed2 .ensures) (c .before .before .before .settle .ensures) (c .before .mirrored .ensures) (c .settle2 .ensures)))

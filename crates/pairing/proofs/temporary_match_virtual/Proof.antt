@@ -9,4 +9,4 @@ temporary-match-virtual-spec =
     (λ c κs. search needs)
     (λ c κs. search needs)
     (λ c. search needs)
-    (λ c. virtual-step _ _ _ _ _ _ _ _ (c .before .before .before .before .emit .ensures) (c .settle .ensures)))
+    (λ c. virtual-step _ _ _ _ _ _ _ _ (c .before .before .before .before .speed .ensures) (c .settle .ensures)))

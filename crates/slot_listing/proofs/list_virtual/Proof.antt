@@ -12,4 +12,4 @@ list-virtual-spec =
     (λ c κs. search needs)
     (λ c κs. search needs)
     (λ c. search needs)
-    (λ c. virtual-step _ _ _ _ _ _ _ (c .before .before .before .before .before .before .before .before .before .before .link .ensures) (c .before .before .before .before .before .before .before .list-inside .ensures) (c .before .before .before .virtual-entry .ensures) (c .before .before .emit .ensures)))
+    (λ c. virtual-step _ _ _ _ _ _ _ (c .before .before .before .before .before .before .before .before .before .before .link .ensures) (c .before .before .before .before .before .before .before .list-inside .ensures) (c .before .before .before .virtual-entry .ensures) (c .before .before .virtual-pair .ensures)))

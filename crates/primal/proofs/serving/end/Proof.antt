@@ -13,6 +13,6 @@ end-spec =
     (λ c κs. search needs)
     (λ c κs. search needs)
     (λ c. search needs)
-    (λ c. rw (c .before .before .before .before .before .answer .given .1) (c .before .before .emit .ensures))
+    (λ c. rw (c .before .before .before .before .before .answer .given .1) (c .before .before .end .ensures))
     (λ c. search needs)
-    (λ c. rw (c .before .before .before .before .before .before .answer2 .given .1) ((c .before .before .emit2 .ensures) ∙ rw (c .before .before .before .number .ensures))))
+    (λ c. rw (c .before .before .before .before .before .before .answer2 .given .1) ((c .before .before .end2 .ensures) ∙ rw (c .before .before .before .number .ensures))))

@@ -1,6 +1,6 @@
 use borrow.Author.Needs.{needs}
-use Rattle.writing.proofs.speed_number.Statement.{statement}
-use Rattle.writing.proofs.speed_number.Tie as tie
+use Rattle.emitting.proofs.speed_number.Statement.{statement}
+use Rattle.emitting.proofs.speed_number.Tie as tie
 
 pub speed-number-spec : {M : Type 1} → statement M
 speed-number-spec =
