@@ -1,1 +1,2 @@
 pub mod WordsOfCounts
+pub mod BlossomEnd

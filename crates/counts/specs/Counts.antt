@@ -1,5 +1,7 @@
 -- begin and the two counts: "`count_defects` is one more than the highest defect named; `count_blossoms` counts all slots given out since the last reset."
-use Prim.Native.Nat.{ℕ}
+use Prim.Native.Nat.{ℕ, _+_}
+use lib.Dec.{leb}
+use Rattle.lists.specs.Choice.{pick}
 use Rattle.table.specs.Table.{Table}
 
 -- one of the three counts replaced
@@ -11,3 +13,7 @@ withDefects t n = record { slots = t .slots; begin = t .begin; defects = n; blos
 
 unfoldable pub withBlossoms : Table → ℕ → Table
 withBlossoms t n = record { slots = t .slots; begin = t .begin; defects = t .defects; blossoms = n }
+
+-- one past the last blossom slot given out, 256 at the most
+unfoldable pub blossomEnd : Table → ℕ
+blossomEnd t = pick (leb 256 (t .begin + t .blossoms)) 256 (t .begin + t .blossoms)

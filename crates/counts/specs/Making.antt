@@ -21,10 +21,10 @@ fresh b = record { slots = replicate 256 emptySlot; begin = b; defects = 0; blos
 abbrev pub emptied : Table → Table
 emptied t = fresh (t .begin)
 
--- the slots below n emptied, one after another
-unfoldable pub cleared : ℕ → Table → Table
-cleared zero t = t
-cleared (suc n) t = put (cleared n t) n emptySlot
+-- k slots emptied, one after another, from n on
+unfoldable pub cleared : ℕ → ℕ → Table → Table
+cleared zero n t = t
+cleared (suc k) n t = cleared k (suc n) (put t n emptySlot)
 
 -- 13: "making with begin outside 1 to 256 (answers no table)"
 abbrev pub beginFits : ℕ → Bool

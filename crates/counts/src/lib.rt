@@ -2,7 +2,7 @@
 use table::Table;
 ghost use mathlib.Core.Path.{_≡_};
 ghost use Rattle.table.specs.Words.{tableOf};
-ghost use Rattle.counts.specs.Counts.{withBegin, withDefects, withBlossoms};
+ghost use Rattle.counts.specs.Counts.{withBegin, withDefects, withBlossoms, blossomEnd};
 
 // `blossom_begin`: the first slot that is no defect's.
 pub fn begin(t: &Table) -> u16
@@ -21,6 +21,19 @@ pub fn count_blossoms(t: &Table) -> u16
     ensures { λ r. ⌜ r ≡ tableOf (now (t .entry)) .blossoms ⌝ }
 {
     t[2818]
+}
+
+// One past the last blossom slot given out.
+pub fn blossom_end(t: &Table) -> u16
+    ensures { λ r. ⌜ r ≡ blossomEnd (tableOf (now (t .entry))) ⌝ }
+{
+    let first = begin(t);
+    let blossoms = count_blossoms(t);
+    let end = (first as u32) + (blossoms as u32);
+    if 256 <= end {
+        return 256;
+    }
+    end as u16
 }
 
 pub fn set_begin(t: &mut Table, n: u16)

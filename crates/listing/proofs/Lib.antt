@@ -1,3 +1,4 @@
 pub mod Steps
 pub mod Defects
 pub mod Room
+pub mod Given

@@ -37,8 +37,11 @@ pub list-world :
 unfolding run list
 list-world words bytes bytes′ pos p e i = record { table = tableOf words; out = e i }
 
--- a table has 256 slots at most, so the room that a listing asks for is a number of the code's
-pub defects-bound : (n : ℕ) (t : Table) → defectsBelow n t ≤ n
+-- no more defects than slots looked at, so the room that a listing asks for is a number of the code's
+defects-bound : (n : ℕ) (t : Table) → defectsBelow n t ≤ n
 unfolding defectsBelow
 defects-bound zero t = omega arith
 defects-bound (suc n) t = omega (arith, defects-bound n t, at-most-one t n (defectAt t n) refl)
+
+pub found-bound : (t : Table) (n found : ℕ) → found ≡ defectsBelow n t → found ≤ n
+found-bound t n found e = rw e (defects-bound n t)

@@ -2,29 +2,47 @@
 use mathlib.Core.Path.{_≡_, sym, _∙_}
 use Prim.Native.Nat.{ℕ, suc, _+_, _-_, _≤_, _<_}
 use native.Mathlib.Numerals.{add-one}
+use native.Mathlib.Nat.{sub-zero}
 use native.Mathlib.Omega.{arith}
 use Rattle.table.specs.Table.{Table}
 use Rattle.record.specs.Writing.{Out, writeAll}
 use Rattle.rules.specs.Listing.{slotListed, slotsListed}
 use Rattle.record.proofs.Written.{writeAll-append}
 use Rattle.pair_listing.proofs.Steps.{nothing-written}
+use Rattle.counts.specs.Counts.{blossomEnd}
+use Rattle.listing.specs.Given.{givenListed}
 
-module _ (t : Table) (o o₁ : Out) (i : ℕ) where
+module _ (t : Table) (o₁ : Out) (i to : ℕ) where
   -- the next slot, and what is left after it
   pub slots-more :
-      (o₂ : Out) (k : ℕ)
-      → i < 256
-      → writeAll o₁ (slotsListed (256 - i) i t) ≡ writeAll o (slotsListed k 0 t)
+      (o₂ o : Out)
+      → i < to
+      → writeAll o₁ (slotsListed (to - i) i t) ≡ o
       → o₂ ≡ writeAll o₁ (slotListed i t)
-      → writeAll o₂ (slotsListed (256 - (i + 1)) (i + 1) t) ≡ writeAll o (slotsListed k 0 t)
+      → writeAll o₂ (slotsListed (to - (i + 1)) (i + 1) t) ≡ o
   unfolding slotsListed
-  slots-more o₂ k h inv p =
-      let f : 256 - i ≡ suc (256 - suc i) = omega arith in
+  slots-more o₂ o h inv p =
+      let f : to - i ≡ suc (to - suc i) = omega arith in
       let inv′ = rw (f, writeAll-append) at inv in
       rw (p, add-one i) inv′
 
-  pub slots-done : 256 ≤ i → i ≤ 256 → (k : ℕ) → writeAll o₁ (slotsListed (256 - i) i t) ≡ writeAll o (slotsListed k 0 t) → o₁ ≡ writeAll o (slotsListed k 0 t)
+  pub slots-done : (o : Out) → to ≤ i → writeAll o₁ (slotsListed (to - i) i t) ≡ o → o₁ ≡ o
   unfolding slotsListed
-  slots-done h l k inv =
-      let f : 256 - i ≡ 0 = omega arith in
+  slots-done o h inv =
+      let f : to - i ≡ 0 = omega arith in
       sym (nothing-written o₁) ∙ rw f at inv
+
+-- the defects given out, and then the blossoms
+pub given-step :
+    (t : Table) (o o₁ o₂ : Out) (defects begin end : ℕ)
+    → defects ≡ t .defects
+    → begin ≡ t .begin
+    → end ≡ blossomEnd t
+    → o₁ ≡ writeAll o (slotsListed (defects - 0) 0 t)
+    → o₂ ≡ writeAll o₁ (slotsListed (end - begin) begin t)
+    → o₂ ≡ writeAll o (givenListed t)
+unfolding givenListed
+given-step t o o₁ o₂ defects begin end d b e p q =
+    let p′ = rw (d, sub-zero) at p in
+    let q′ = rw (b, e) at q in
+    q′ ∙ rw (p′, writeAll-append)

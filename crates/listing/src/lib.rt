@@ -1,37 +1,53 @@
-// The listing (01, "The listing"): slot after slot.
+// The listing (01, "The listing"), on a table that is known to be sound: only slots that were given out can hold a node (S1), so
+// only those are looked at.
 use nodes::field;
 use refusal::Answer;
 use refusal::Refusal;
 use slot::Node;
 use table::Table;
 ghost use mathlib.Core.Path.{_≡_};
+ghost use mathlib.Core.Bool.{true};
+ghost use Prim.Native.Nat.{_-_};
 ghost use Rattle.table.specs.Words.{tableOf};
 ghost use Rattle.record.specs.declared.request.Request.the-variants as Q;
 ghost use Rattle.record.specs.Writing.{outOf, writeAll};
-ghost use Rattle.rules.specs.Listing.{listing};
-ghost use Rattle.rules.specs.Refusals.{presentDefects, defectAt};
+ghost use Rattle.rules.specs.Sound.{sound};
+ghost use Rattle.rules.specs.Listing.{slotsListed};
+ghost use Rattle.rules.specs.Refusals.{defectsBelow, defectAt};
 ghost use Rattle.outcome.specs.Handled.{Handled};
+ghost use Rattle.listing.specs.Given.{givenListed};
 
-// The whole listing, slot after slot.
-fn list_all(t: &Table, out: &mut [u8], pos: usize) -> usize
-    ensures { λ r. ⌜ outOf (now (out .exit)) r ≡ writeAll (outOf (now (out .entry)) pos) (listing (tableOf (now (t .entry)))) ⌝ }
+// The slots from one up to another (not with it), ascending.
+fn list_slots(t: &Table, out: &mut [u8], pos: usize, from: u16, to: u16) -> usize
+    ensures { λ r. ⌜ outOf (now (out .exit)) r ≡ writeAll (outOf (now (out .entry)) pos) (slotsListed (to - from) from (tableOf (now (t .entry)))) ⌝ }
 {
     let mut p = pos;
-    let mut i: u16 = 0;
-    while i < 256 {
+    let mut i = from;
+    while i < to {
         p = slot_listing::list_slot(t, out, p, Node(i));
         i += 1;
     }
     p
 }
 
-// The present defects, for which a listing asks room.
-fn present_defects(t: &Table) -> usize
-    ensures { λ r. ⌜ r ≡ presentDefects (tableOf (now (t .entry))) ⌝ }
+// The defects given out, and the blossoms.
+fn list_given(t: &Table, out: &mut [u8], pos: usize) -> usize
+    ensures { λ r. ⌜ outOf (now (out .exit)) r ≡ writeAll (outOf (now (out .entry)) pos) (givenListed (tableOf (now (t .entry)))) ⌝ }
+{
+    let defects = counts::count_defects(t);
+    let begin = counts::begin(t);
+    let end = counts::blossom_end(t);
+    let p = list_slots(t, out, pos, 0, defects);
+    list_slots(t, out, p, begin, end)
+}
+
+// The present defects below a number, for which a listing asks room.
+fn defects_below(t: &Table, to: u16) -> usize
+    ensures { λ r. ⌜ r ≡ defectsBelow to (tableOf (now (t .entry))) ⌝ }
 {
     let mut found: usize = 0;
     let mut i: u16 = 0;
-    while i < 256 {
+    while i < to {
         found += defect_at(t, Node(i));
         i += 1;
     }
@@ -51,14 +67,14 @@ fn defect_at(t: &Table, n: Node) -> usize
     0
 }
 
-// The listing on a table that is known to be sound: refused without room for it; from a position of the lent bytes on. What is
-// promised holds on any table, but it is 01's answer on a sound one only.
+// Refused without room for the listing; from a position of the lent bytes on.
 pub fn list(t: &Table, out: &mut [u8], pos: usize) -> Answer
-    ensures { λ r. ⌜ Handled Q.List pos (now (t .entry)) (now (out .entry)) r (now (t .entry)) (now (out .exit)) ⌝ }
+    ensures { λ r. ⌜ (sound (tableOf (now (t .entry))) ≡ true → Handled Q.List pos (now (t .entry)) (now (out .entry)) r (now (t .entry)) (now (out .exit))) ⌝ }
 {
-    let needed = 16 * present_defects(t);
+    let defects = counts::count_defects(t);
+    let needed = 16 * defects_below(t, defects);
     if outcome::room(out, pos) < needed {
         return Answer::Refused(Refusal::NoListingRoom);
     }
-    Answer::Done(list_all(t, out, pos))
+    Answer::Done(list_given(t, out, pos))
 }

@@ -1,28 +1,29 @@
-// Making a table, and emptying one: the inner part of reset.
+// Making a table, and emptying slots.
 use refusal::Answer;
 use refusal::Refusal;
 use slot::Node;
 use table::Table;
 ghost use mathlib.Core.Path.{_≡_};
+ghost use Prim.Native.Nat.{_-_};
 ghost use Rattle.table.specs.Words.{tableOf};
 ghost use Rattle.counts.specs.Making.{emptied, cleared, Made};
 
-// Empties every slot.
-fn clear_slots(t: &mut Table)
-    ensures { λ _. ⌜ tableOf (now (t .exit)) ≡ cleared 256 (tableOf (now (t .entry))) ⌝ }
+// Empties the slots from one up to another (not with it).
+pub fn clear_slots(t: &mut Table, from: u16, to: u16)
+    ensures { λ _. ⌜ tableOf (now (t .exit)) ≡ cleared (to - from) from (tableOf (now (t .entry))) ⌝ }
 {
-    let mut i: u16 = 0;
-    while i < 256 {
+    let mut i = from;
+    while i < to {
         storing::store(t, Node(i), slot::value::empty_slot());
         i += 1;
     }
 }
 
 // Empties all slots and zeroes both counts; begin stays.
-pub fn empty_table(t: &mut Table)
+fn empty_table(t: &mut Table)
     ensures { λ _. ⌜ tableOf (now (t .exit)) ≡ emptied (tableOf (now (t .entry))) ⌝ }
 {
-    clear_slots(t);
+    clear_slots(t, 0, 256);
     counts::set_count_defects(t, 0);
     counts::set_count_blossoms(t, 0);
 }

@@ -65,12 +65,12 @@ module _ (q : Request) (pos : ℕ) (words bytes words′ bytes′ : List ℕ) (a
 
 pub served-step :
     (q : Request) (pos p : ℕ) (words bytes words′ bytes′ bytes″ : List ℕ) (a : Answer)
-    → Outcome (laterVerdict q (tableOf words) (length bytes - pos)) (actOf q) pos words bytes a words′ bytes′
+    → (sound (tableOf words) ≡ true → Outcome (laterVerdict q (tableOf words) (length bytes - pos)) (actOf q) pos words bytes a words′ bytes′)
     → outOf bytes″ p ≡ written (outOf bytes′ (posAfter pos a)) (answerBytes (R.End (answerNumber a)))
     → Serves q pos words bytes p words′ bytes″
 unfolding Serves
 served-step q pos p words bytes words′ bytes′ bytes″ a h e s =
-    by-verdict q pos words bytes words′ bytes′ a (outOf bytes″ p) (laterVerdict q (tableOf words) (length bytes - pos)) (sound-verdict q (tableOf words) (length bytes - pos) s) h e
+    by-verdict q pos words bytes words′ bytes′ a (outOf bytes″ p) (laterVerdict q (tableOf words) (length bytes - pos)) (sound-verdict q (tableOf words) (length bytes - pos) s) (h s) e
 
 pub served-world :
     (q : Request) (pos p : ℕ) (words bytes words′ bytes′ : List ℕ)

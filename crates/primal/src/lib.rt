@@ -37,7 +37,7 @@ pub fn reset(t: &mut Table) -> Answer
     if !sound::is_sound(t) {
         return Answer::Refused(Refusal::NotSound);
     }
-    making::empty_table(t);
+    resetting::reset(t);
     Answer::Done(0)
 }
 

@@ -47,7 +47,7 @@ fn serve_expansion(t: &mut Table, out: &mut [u8], pos: usize, e: Expansion) -> u
 fn serve_reset(t: &mut Table, out: &mut [u8], pos: usize) -> usize
     ensures { λ r. ⌜ Serves Q.Reset pos (now (t .entry)) (now (out .entry)) r (now (t .exit)) (now (out .exit)) ⌝ }
 {
-    making::empty_table(t);
+    resetting::reset(t);
     end(out, pos, Answer::Done(pos))
 }
 

@@ -16,3 +16,4 @@ pub mod ChildLaws
 pub mod RingLaws
 pub mod InsideLaws
 pub mod TouchLaws
+pub mod GivenSlots

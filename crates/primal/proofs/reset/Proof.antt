@@ -13,4 +13,6 @@ reset-spec = tie.close (tie.spec
     (λ c κs. search needs)
     (λ c. refused-by _ _ _ _ _ (unsound-verdict _ _ _ (sym (c .before .is-sound .ensures) ∙ not-true _ (c .if1 .taken))))
     (λ c κs. search needs)
-    (λ c. accepted-by _ _ _ _ _ _ _ _ (sound-verdict _ _ _ (sym (c .before .before .before .is-sound .ensures) ∙ not-false _ (c .before .before .if1 .left)) ∙ reset-accepted _ _) (reset-world _ _ _ _ (c .empty-table .ensures))))
+    (λ c.
+    let s = sym (c .before .before .before .is-sound .ensures) ∙ not-false _ (c .before .before .if1 .left) in
+    accepted-by _ _ _ _ _ _ _ _ (sound-verdict _ _ _ s ∙ reset-accepted _ _) (reset-world _ _ _ _ ((c .reset .ensures) s))))

@@ -10,4 +10,4 @@ serve-reset-spec = tie.close (tie.spec
     (λ c κs. search needs)
     (λ c κs. search needs)
     (λ c. search needs)
-    (λ c. served-step _ _ _ _ _ _ _ _ _ (accepted-by _ _ _ _ _ _ _ _ (reset-accepted _ _) (reset-world _ _ _ _ (c .before .before .before .before .empty-table .ensures))) (c .before .before .end .ensures)))
+    (λ c. served-step _ _ _ _ _ _ _ _ _ (λ s. accepted-by _ _ _ _ _ _ _ _ (reset-accepted _ _) (reset-world _ _ _ _ ((c .before .before .before .before .reset .ensures) s))) (c .before .before .end .ensures)))

@@ -5,18 +5,18 @@ use Rattle.rules.specs.Refusals.{defectsBelow}
 use Rattle.table.specs.Words.{tableOf}
 use Prim.Native.Nat.{_≤_, _-_}
 use mathlib.Core.Path.{_≡_, refl}
-use Rattle.listing.proofs.present_defects.Statement.{statement}
-use Rattle.listing.proofs.present_defects.Tie as tie
+use Rattle.listing.proofs.defects_below.Statement.{statement}
+use Rattle.listing.proofs.defects_below.Tie as tie
 
 abbrev Inv-loop : tie.InvT-loop
-Inv-loop t found₀ i₀ found i = (found ≡ defectsBelow i (tableOf t)) × (i ≤ 256) × (found ≤ i)
+Inv-loop t to found₀ i₀ found i = (found ≡ defectsBelow i (tableOf t)) × (i ≤ to) × (found ≤ i)
 
 abbrev μ-loop : tie.MeasureT-loop
-μ-loop t found₀ i₀ found i = 256 - i
+μ-loop t to found₀ i₀ found i = to - i
 
-pub present-defects-spec : {M : Type 1} → statement M
+pub defects-below-spec : {M : Type 1} → statement M
 unfolding defectsBelow
-present-defects-spec =
+defects-below-spec =
     tie.close
     (tie.spec
     Inv-loop
@@ -27,4 +27,4 @@ present-defects-spec =
     (λ c. search needs)
     (λ c. search needs)
     (λ c. (one-more _ _ _ _ (c .before .before .loop .inv .0) (c .defect-at .ensures), search needs, omega (arith, at-most-one _ _ _ (c .defect-at .ensures))))
-    (λ c. let e : (c .before .loop .i) ≡ 256 = omega arith in rw e at (c .before .loop .inv .0)))
+    (λ c. let e : (c .before .loop .i) ≡ (c .before .before .args .to) = omega arith in rw e at (c .before .loop .inv .0)))
