@@ -1,32 +1,27 @@
 -- On a sound table the slots given out list what all slots list, and hold all present defects.
 use mathlib.Core.Path.{_≡_, refl, sym, ap, _∙_}
-use mathlib.Core.Bool.{Bool, true, false, _&&_}
+use mathlib.Core.Bool.{true, _&&_}
 use mathlib.Core.List.{List, [], _++_, append-assoc, append-nil}
 use mathlib.Core.Logic.{inl, inr}
 use Prim.Native.Nat.{ℕ, zero, suc, _+_, _-_, _≤_, _<_}
 use native.Mathlib.Omega.{arith}
-use native.Mathlib.Nat.{add-zero, add-suc}
-use lib.Dec.{leb, ltb→lt}
-use borrow.Author.Tests.{leb-true}
-use Rattle.lists.specs.Choice.{pick}
-use Rattle.slot.specs.State.{isOuter, isPresent}
+use lib.Dec.{ltb→lt}
 use Rattle.table.specs.Table.{Table, at}
 use Rattle.table.proofs.Laws.{Full}
+use Rattle.counts.specs.Counts.{blossomEnd}
 use Rattle.nodes.specs.Nodes.{present, outer, isDefect}
 use Rattle.record.specs.declared.answer.Record.{Record}
 use Rattle.record.specs.Writing.{Out, writeAll}
 use Rattle.rules.specs.Sound.{sound}
 use Rattle.rules.specs.Listing.{slotListed, slotsListed, listing}
 use Rattle.rules.specs.Refusals.{defectAt, defectsBelow, presentDefects}
-use Rattle.sound_facts.specs.Facts.{Sound, Given}
-use Rattle.sound_facts.proofs.Reflect.{test-case, test-false, true-test}
-use Rattle.sound_facts.proofs.SoundFacts.{sound→facts}
-use Rattle.counts.specs.Counts.{blossomEnd}
-use Rattle.listing.specs.Given.{givenListed}
-use Rattle.sound_facts.proofs.GivenSlots.{end-of-blossoms}
 use Rattle.rules.proofs.Runs.{choose-no}
-use Rattle.sound_facts.proofs.Reflect.{and→, pick-no, tests}
+use Rattle.sound_facts.specs.Facts.{Sound, Given}
+use Rattle.sound_facts.proofs.Reflect.{and→, pick-no, test-false, true-test}
 use Rattle.sound_facts.proofs.ReflectSlots.{outer-present}
+use Rattle.sound_facts.proofs.SoundFacts.{sound→facts}
+use Rattle.sound_facts.proofs.GivenSlots.{end-of-blossoms}
+use Rattle.listing.specs.Given.{givenListed}
 
 module _ (t : Table) (s : Sound t) where
   -- a slot that was not given out lists nothing
