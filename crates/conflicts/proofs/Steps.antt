@@ -1,10 +1,12 @@
 -- Each function, one step at a time: its premises in the code's order, its own promise as the conclusion.
 use mathlib.Core.Path.{_≡_, sym, _∙_}
 use mathlib.Core.Bool.{true, false}
-use Prim.Native.Nat.{ℕ, _+_, _≤_, _<_}
+use Prim.Native.Nat.{ℕ, _+_}
 use borrow.Author.Tests.{le-leb, lt-leb}
 use Rattle.slot.specs.Slot.{Link}
 use Rattle.table.specs.Table.{Table, at}
+use Rattle.counts.specs.Counts.{blossomEnd}
+use Rattle.counts.proofs.BlossomEnd.{no-slot-left, slot-left}
 use Rattle.nodes.specs.declared.place.Place.{Place}
 use Rattle.nodes.specs.Place.{place}
 use Rattle.record.specs.declared.request.Conflict.{Conflict}
@@ -30,29 +32,29 @@ no-step w = sym (run-skip w)
 
 module _ (w : World) (x y : ℕ) (l : Link) where
   pub blossom-full :
-      (b c : ℕ)
-      → b ≡ w .table .begin
-      → c ≡ w .table .blossoms
-      → 256 ≤ b + c
+      (b : ℕ)
+      → b ≡ blossomEnd (w .table)
+      → b ≡ 256
       → w ≡ run w (blossomByDepths x y l)
   unfolding blossomByDepths
-  blossom-full b c e f h =
-      let h′ : 256 ≤ w .table .begin + w .table .blossoms = rw (e, f) at h in
-      sym (run-read w _ ∙ run-yes w (lacksBlossomSlot (w .table)) skip _ (le-leb 256 (w .table .begin + w .table .blossoms) h′) ∙ run-skip w)
+  blossom-full b e q =
+      let h = no-slot-left (w .table) (sym e ∙ q) in
+      sym (run-read w _ ∙ run-yes w (lacksBlossomSlot (w .table)) skip _ (le-leb 256 (w .table .begin + w .table .blossoms) h) ∙ run-skip w)
 
   pub blossom-step :
       (w₁ : World) (b c m : ℕ)
-      → b ≡ w .table .begin
+      → b ≡ blossomEnd (w .table)
+      → (b ≡ 256 → ⊥)
       → c ≡ w .table .blossoms
-      → b + c < 256
       → m ≡ meetByDepths (w .table) x y
-      → w₁ ≡ run w (createBlossom (b + c) (c + 1) m x y l)
+      → w₁ ≡ run w (createBlossom b (c + 1) m x y l)
       → w₁ ≡ run w (blossomByDepths x y l)
   unfolding blossomByDepths
-  blossom-step w₁ b c m e f h g p =
-      let h′ : w .table .begin + w .table .blossoms < 256 = rw (e, f) at h in
-      (rw (e, f, g) at p)
-      ∙ sym (run-read w _ ∙ run-no w (lacksBlossomSlot (w .table)) skip _ (lt-leb 256 (w .table .begin + w .table .blossoms) h′))
+  blossom-step w₁ b c m e n f g p =
+      let s = slot-left (w .table) (λ q. n (e ∙ q)) in
+      let b-sum : b ≡ w .table .begin + w .table .blossoms = e ∙ s .0 in
+      (rw (b-sum, f, g) at p)
+      ∙ sym (run-read w _ ∙ run-no w (lacksBlossomSlot (w .table)) skip _ (lt-leb 256 (w .table .begin + w .table .blossoms) (s .1)))
 
   pub one-tree :
       (w₁ : World)

@@ -18,24 +18,13 @@ ghost use Rattle.conflicts.specs.ByDepths.{blossomByDepths};
 fn blossom_in_tree(t: &mut Table, out: &mut [u8], pos: usize, x: Node, y: Node, link: Link) -> usize
     ensures { λ r. ⌜ worldOf (now (t .exit)) (now (out .exit)) r ≡ run (worldOf (now (t .entry)) (now (out .entry)) pos) (blossomByDepths (x .0) (y .0) (linkOf link)) ⌝ }
 {
-    let begin = counts::begin(t);
-    let blossoms = counts::count_blossoms(t);
-    let next = (begin as u32) + (blossoms as u32);
-    if 256 <= next {
+    let next = counts::blossom_end(t);
+    if next == 256 {
         return pos;
     }
+    let given = counts::count_blossoms(t) + 1;
     let meeting = trees::find_lowest_common_ancestor(t, x, y);
-    blossom::create_blossom(
-        t,
-        out,
-        pos,
-        Node(next as u16),
-        blossoms + 1,
-        meeting,
-        x,
-        y,
-        link,
-    )
+    blossom::create_blossom(t, out, pos, Node(next), given, meeting, x, y, link)
 }
 
 // Two tree nodes: one tree makes a blossom, two trees are augmented, node_1's first.

@@ -2,7 +2,7 @@
 use mathlib.Core.Path.{_≡_}
 use mathlib.Core.List.{List}
 use mathlib.Core.Bool.{Bool, _&&_}
-use Prim.Native.Nat.{ℕ, zero, suc}
+use Prim.Native.Nat.{ℕ}
 use lib.ListN.{replicate}
 use lib.Dec.{leb}
 use Rattle.lists.specs.Choice.{pick}
@@ -10,7 +10,7 @@ use Rattle.refusal.specs.declared.Answer.{Answer}
 use Rattle.refusal.specs.declared.Answer.the-variants.{Done, Refused}
 use Rattle.refusal.specs.declared.Refusal.the-variants.{BadBegin}
 use Rattle.slot.specs.Slot.{emptySlot}
-use Rattle.table.specs.Table.{Table, put}
+use Rattle.table.specs.Table.{Table}
 use Rattle.table.specs.Words.{tableOf}
 
 -- a table as made: every slot empty, both counts zero
@@ -20,11 +20,6 @@ fresh b = record { slots = replicate 256 emptySlot; begin = b; defects = 0; blos
 -- "Reset empties all slots and zeroes both counts"; begin is "fixed at making"
 abbrev pub emptied : Table → Table
 emptied t = fresh (t .begin)
-
--- k slots emptied, one after another, from n on
-unfoldable pub cleared : ℕ → ℕ → Table → Table
-cleared zero n t = t
-cleared (suc k) n t = cleared k (suc n) (put t n emptySlot)
 
 -- 13: "making with begin outside 1 to 256 (answers no table)"
 abbrev pub beginFits : ℕ → Bool

@@ -1,9 +1,9 @@
 -- The listing, one slot after another.
 use mathlib.Core.Path.{_≡_, sym, _∙_}
-use Prim.Native.Nat.{ℕ, suc, _+_, _-_, _≤_, _<_}
+use Prim.Native.Nat.{ℕ, _+_, _-_, _≤_, _<_}
 use native.Mathlib.Numerals.{add-one}
 use native.Mathlib.Nat.{sub-zero}
-use native.Mathlib.Omega.{arith}
+use Rattle.lists.proofs.Budget.{one-left, none-left}
 use Rattle.table.specs.Table.{Table}
 use Rattle.record.specs.Writing.{Out, writeAll}
 use Rattle.rules.specs.Listing.{slotListed, slotsListed}
@@ -22,15 +22,13 @@ module _ (t : Table) (o₁ : Out) (i to : ℕ) where
       → writeAll o₂ (slotsListed (to - (i + 1)) (i + 1) t) ≡ o
   unfolding slotsListed
   slots-more o₂ o h inv p =
-      let f : to - i ≡ suc (to - suc i) = omega arith in
-      let inv′ = rw (f, writeAll-append) at inv in
+      let inv′ = rw (one-left i to h, writeAll-append) at inv in
       rw (p, add-one i) inv′
 
   pub slots-done : (o : Out) → to ≤ i → writeAll o₁ (slotsListed (to - i) i t) ≡ o → o₁ ≡ o
   unfolding slotsListed
   slots-done o h inv =
-      let f : to - i ≡ 0 = omega arith in
-      sym (nothing-written o₁) ∙ rw f at inv
+      sym (nothing-written o₁) ∙ rw (none-left i to h) at inv
 
 -- the defects given out, and then the blossoms
 pub given-step :

@@ -5,11 +5,13 @@ use native.Mathlib.Omega.{arith}
 use native.Mathlib.Decide.{ℕ-discrete, decLt}
 use native.Mathlib.Numerals.{add-one}
 use lib.ListN.{length-replicate, getD-replicate}
+use Rattle.lists.proofs.Budget.{one-left, none-left}
 use Rattle.slot.specs.Slot.{Slot, emptySlot}
 use Rattle.table.specs.Table.{Table, at, put}
 use Rattle.table.proofs.Laws.{Full, at-put-same, at-put-other, at-out, put-full, table-ext}
 use Rattle.counts.specs.Counts.{withDefects, withBlossoms}
-use Rattle.counts.specs.Making.{fresh, emptied, cleared}
+use Rattle.counts.specs.Making.{fresh, emptied}
+use Rattle.making.specs.Cleared.{cleared}
 
 -- ---- one slot after another
 
@@ -17,13 +19,12 @@ module _ (t u : Table) (i to : ℕ) where
   pub cleared-step : (t₁ : Table) (s : Slot) → i < to → cleared (to - i) i t ≡ u → s ≡ emptySlot → t₁ ≡ put t i s → cleared (to - (i + 1)) (i + 1) t₁ ≡ u
   unfolding cleared
   cleared-step t₁ s h inv e p =
-      let f : to - i ≡ suc (to - suc i) = omega arith in
-      let inv′ = rw f at inv in
+      let inv′ = rw (one-left i to h) at inv in
       rw (p, e, add-one i) inv′
 
   pub cleared-done : to ≤ i → cleared (to - i) i t ≡ u → t ≡ u
   unfolding cleared
-  cleared-done h inv = let f : to - i ≡ 0 = omega arith in rw f at inv
+  cleared-done h inv = rw (none-left i to h) at inv
 
 -- ---- what stands where
 

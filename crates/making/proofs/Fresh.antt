@@ -10,7 +10,8 @@ use Rattle.table.specs.Table.{Table}
 use Rattle.table.specs.Words.{tableOf}
 use Rattle.table.proofs.WordsOfSlots.{slots-length}
 use Rattle.counts.specs.Counts.{withBegin, withDefects, withBlossoms}
-use Rattle.counts.specs.Making.{emptied, cleared, Made}
+use Rattle.counts.specs.Making.{emptied, Made}
+use Rattle.making.specs.Cleared.{cleared}
 use Rattle.making.proofs.Cleared.{cleared-full, cleared-begin, cleared-at, all-empty}
 
 pub empty-step :

@@ -6,7 +6,8 @@ use table::Table;
 ghost use mathlib.Core.Path.{_≡_};
 ghost use Prim.Native.Nat.{_-_};
 ghost use Rattle.table.specs.Words.{tableOf};
-ghost use Rattle.counts.specs.Making.{emptied, cleared, Made};
+ghost use Rattle.counts.specs.Making.{emptied, Made};
+ghost use Rattle.making.specs.Cleared.{cleared};
 
 // Empties the slots from one up to another (not with it).
 pub fn clear_slots(t: &mut Table, from: u16, to: u16)

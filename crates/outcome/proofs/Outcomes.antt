@@ -5,6 +5,7 @@ use Prim.Native.Nat.{ℕ, _≤_, _<_}
 use borrow.Author.Tests.{lt-ltb, le-ltb}
 use Rattle.lists.specs.Choice.{pick}
 use Rattle.table.specs.Table.{Table}
+use Rattle.refusal.specs.declared.Answer.{Answer}
 use Rattle.refusal.specs.declared.Answer.the-variants as A
 use Rattle.refusal.specs.declared.Verdict.{Verdict}
 use Rattle.refusal.specs.declared.Verdict.the-variants as W
@@ -30,6 +31,10 @@ module _ (act : Act) (pos : ℕ) (words bytes : List ℕ) where
       → worldOf words′ bytes′ p ≡ run (worldOf words bytes pos) act
       → Outcome v act pos words bytes (A.Done p) words′ bytes′
   accepted-by v p words′ bytes′ e q = rw e (refl, q)
+
+  -- .. and what one verdict has for outcome, an equal one has
+  pub same-outcome : (v v′ : Verdict) (r : Answer) (words′ bytes′ : List ℕ) → v ≡ v′ → Outcome v′ act pos words bytes r words′ bytes′ → Outcome v act pos words bytes r words′ bytes′
+  same-outcome v v′ r words′ bytes′ e h = rw e h
 
 -- ---- the verdict by the tests, for the three requests that ask for command room
 

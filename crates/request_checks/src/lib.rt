@@ -59,10 +59,7 @@ fn makes_blossom(t: &Table, x: Node, y: Node) -> bool
 fn lacks_blossom_slot(t: &Table) -> bool
     ensures { λ r. ⌜ r ≡ lacksBlossomSlot (tableOf (now (t .entry))) ⌝ }
 {
-    let begin = counts::begin(t);
-    let blossoms = counts::count_blossoms(t);
-    let next = (begin as u32) + (blossoms as u32);
-    256 <= next
+    counts::blossom_end(t) == 256
 }
 
 // 3 of a conflict.

@@ -13,7 +13,8 @@ use Rattle.table.specs.Words.{tableOf}
 use Rattle.table.proofs.WordsOfSlots.{slots-length}
 use Rattle.table.proofs.Laws.{Full}
 use Rattle.counts.specs.Counts.{withDefects, withBlossoms, blossomEnd}
-use Rattle.counts.specs.Making.{cleared, emptied}
+use Rattle.counts.specs.Making.{emptied}
+use Rattle.making.specs.Cleared.{cleared}
 use Rattle.making.proofs.Cleared.{cleared-full, cleared-begin, cleared-keeps, cleared-at, all-empty}
 use Rattle.rules.specs.Sound.{sound}
 use Rattle.sound_facts.specs.Facts.{Sound}

@@ -7,6 +7,7 @@ use native.Mathlib.Numerals.{add-one}
 use native.Mathlib.Omega.{arith}
 use lib.ListN.{length, getD, set, List·getD-eq-default}
 use borrow.Author.Tests.{eq-eqb, ne-eqb}
+use Rattle.lists.proofs.Budget.{fewer, one-left, none-left}
 use Rattle.slot.specs.Number.{none}
 use Rattle.sound_marks.specs.Marks.{marked, walkedOf, marking, Judged, judgedOf, sweep}
 
@@ -48,21 +49,20 @@ module _ (along : ℕ → ℕ) (mine : ℕ → Bool) (n c : ℕ) (l : List ℕ) 
   marking-more zero b m x h z e q p r = absurd (z refl)
   marking-more (suc k) b m x h z e q p r =
       let u : mine n ≡ true = sym e ∙ q in
-      let f : suc k - 1 ≡ k = omega arith in
-      rw (f, p, r, ne-eqb n none h, u)
+      rw (fewer k, p, r, ne-eqb n none h, u)
 
 -- ---- a pass
 
 module _ (step : ℕ → List ℕ → Judged) (to i : ℕ) (l : List ℕ) where
   pub sweep-end : to ≤ i → judgedOf true l ≡ sweep step (to - i) i l
   unfolding sweep
-  sweep-end h = let e : to - i ≡ 0 = omega arith in rw e
+  sweep-end h = rw (none-left i to h)
 
   module _ (b : Bool) (m : List ℕ) (h : i < to) (e : judgedOf b m ≡ step i l) where
     pub sweep-stop : b ≡ false → judgedOf false m ≡ sweep step (to - i) i l
     unfolding sweep
-    sweep-stop q = let f : to - i ≡ suc (to - suc i) = omega arith in rw (f, ← e, q)
+    sweep-stop q = rw (one-left i to h, ← e, q)
 
     pub sweep-more : b ≡ true → sweep step (to - (i + 1)) (i + 1) m ≡ sweep step (to - i) i l
     unfolding sweep
-    sweep-more q = let f : to - i ≡ suc (to - suc i) = omega arith in rw (f, ← e, q, add-one)
+    sweep-more q = rw (one-left i to h, ← e, q, add-one)

@@ -2,7 +2,7 @@ use mathlib.Core.Path.{_≡_, refl}
 use Prim.Native.Nat.{_-_}
 use borrow.Author.Needs.{needs}
 use Rattle.table.specs.Words.{tableOf}
-use Rattle.counts.specs.Making.{cleared}
+use Rattle.making.specs.Cleared.{cleared}
 use Rattle.making.proofs.Cleared.{cleared-step, cleared-done}
 use Rattle.making.proofs.clear_slots.Statement.{statement}
 use Rattle.making.proofs.clear_slots.Tie as tie

@@ -1,3 +1,4 @@
+use Rattle.counts.proofs.BlossomEnd.{is-last}
 use borrow.Author.Needs.{needs}
 use Rattle.request_checks.proofs.lacks_blossom_slot.Statement.{statement}
 use Rattle.request_checks.proofs.lacks_blossom_slot.Tie as tie
@@ -7,8 +8,4 @@ lacks-blossom-slot-spec =
     tie.close
     (tie.spec
     (λ c κs. search needs)
-    (λ c κs. search needs)
-    (λ c. search needs)
-    (λ c. search needs)
-    (λ c. search needs)
-    (λ c. rw ((c .before .begin .ensures), (c .count-blossoms .ensures))))
+    (λ c. is-last _ _ (c .blossom-end .ensures)))
