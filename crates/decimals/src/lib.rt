@@ -29,11 +29,11 @@ pub fn write_bytes(out: &mut [u8], pos: usize, bytes: &[u8]) -> usize
 }
 
 // Writes a number in decimal at pos, in the same way.
-pub fn write_decimal(out: &mut [u8], pos: usize, n: u32) -> usize
+pub fn write_decimal(out: &mut [u8], pos: usize, n: u64) -> usize
     ensures { λ r. ⌜ outOf (now (out .exit)) r ≡ written (outOf (now (out .entry)) pos) (decimal n) ⌝ }
 {
     let mut digits = [0u8; 20];
-    let count = io::decimal(n as u64, &mut digits);
+    let count = io::decimal(n, &mut digits);
     write_bytes(out, pos, &digits[..count])
 }
 

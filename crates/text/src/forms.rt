@@ -32,13 +32,18 @@ pub const FORMS: [u8; 830] = *b"|conflict #n2 #n3 touch #n4 #n5 vertex #v6 #v8
 |  refused 13: begin outside 1 to 256
 ";
 
-// The end of an accepted request. The refusals follow it by their numbers (01, "Numbers given back").
+// The first answer, and the end of an accepted request. The refusals follow the end by their numbers.
+pub const FIRST_ANSWER: usize = 6;
+
 pub const END: usize = 13;
 
-// The number of the line of a record, which has one of 01's kinds.
+// `#`, what it stands for, and its place.
+pub const MARK_LENGTH: usize = 3;
+
+// The number of the line of a record, which has one of the kinds known.
 pub fn number_of(record: &[u8]) -> usize {
     match narrow_at(record, 2) {
-        kind::SPEED => 6 + narrow_at(record, 6) as usize,
+        kind::SPEED => FIRST_ANSWER + narrow_at(record, 6) as usize,
         kind::CREATE => 9,
         kind::EXPAND => 10,
         kind::PAIR => 11,

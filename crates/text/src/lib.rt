@@ -1,12 +1,19 @@
 // Requests and answers in words, a line each, and back. An answer's line is indented by two spaces.
+mod faults;
 mod fields;
 mod forms;
-mod line;
+pub mod line;
 mod pieces;
-pub mod reading;
+pub mod reasons;
+mod words;
 pub mod writing;
 
+pub use faults::write_fault;
+pub use line::Fault;
+pub use line::Line;
+pub use line::read_line;
 pub use pieces::nth;
-pub use reading::Outcome;
-pub use reading::read_text;
+pub use reasons::write_bad_record;
+pub use reasons::write_reason;
+pub use writing::write_named;
 pub use writing::write_records;

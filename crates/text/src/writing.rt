@@ -9,12 +9,18 @@ use decimals::write_decimal;
 ghost use Prim.Native.Nat.{_≤_};
 ghost use lib.ListN.{length};
 
+// A word and a number, as "line 3".
+pub fn write_named(out: &mut [u8], pos: usize, word: &[u8], n: u64) -> usize {
+    let p = write_bytes(out, pos, word);
+    write_decimal(out, p, n)
+}
+
 fn write_field(out: &mut [u8], pos: usize, record: &[u8], mark: u8, digit: u8) -> usize {
     let n = field(record, mark, digit);
     if n == none(mark) {
         return write_bytes(out, pos, b"none");
     }
-    write_decimal(out, pos, n)
+    write_decimal(out, pos, n as u64)
 }
 
 // What follows a `#` of a form: a mark's two bytes, in place of which the record's number is written, and words.
@@ -27,7 +33,7 @@ fn write_piece(out: &mut [u8], pos: usize, piece: &[u8], record: &[u8]) -> usize
 }
 
 // A form's words up to its mark of this number.
-fn write_form(out: &mut [u8], pos: usize, form: &[u8], n: usize, record: &[u8]) -> usize {
+pub fn write_form(out: &mut [u8], pos: usize, form: &[u8], n: usize, record: &[u8]) -> usize {
     let piece = nth(form, b'#', n);
     if n == 0 {
         return write_bytes(out, pos, piece);

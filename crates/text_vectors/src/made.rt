@@ -1,4 +1,4 @@
-// The tape that a line made.
+// The record that a line made.
 use crate::message;
 use crate::message::say;
 
@@ -21,29 +21,29 @@ fn compare(own: &[u8], line: &[u8]) {
     }
     say(message::OTHER_WORDS);
     io::write_all(1, own);
+    io::write_all(1, b"\n");
 }
 
-fn written(tape: &[u8], line: &[u8]) {
+// The words end with a line feed, which the line no longer has.
+fn written(record: &[u8], line: &[u8]) {
     let mut space = io::buffer();
     let room: &mut [u8] = &mut space;
-    let n = text::write_records(room, 0, tape);
+    let n = text::write_records(room, 0, record);
     let words = &room[..];
-    if n <= words.len() {
-        compare(&words[0..n], line);
+    if 0 < n {
+        if n <= words.len() {
+            compare(&words[0..n - 1], line);
+        }
     }
 }
 
 // The first n bytes.
-pub fn show(tape: &[u8], n: usize, line: &[u8]) {
-    if n == 0 {
-        say(message::PASSED_OVER);
+pub fn show(record: &[u8], n: usize, line: &[u8]) {
+    if record.len() < n {
         return;
     }
-    if tape.len() < n {
-        return;
-    }
-    let bytes = &tape[0..n];
-    say(message::TAPE);
+    let bytes = &record[0..n];
+    say(message::RECORD);
     hex(bytes);
     written(bytes, line);
 }

@@ -1,60 +1,54 @@
-// Reads each line of standard input as a text by itself, and prints the tape that it makes; a request is then written in words
-// again, and held to the line. Then reads all of the lines as one text, with much room and with little.
+// Reads each line of standard input by itself, and prints the record that it makes; a request is then written in words again, and
+// held to the line. A line that is no request is printed with what was expected of it.
 mod made;
 mod message;
 
 use libc::STDIN_FILENO;
 use message::say;
-use message::say_line;
-use text::Outcome;
+use text::Fault;
+use text::Line;
 
-fn read(text: &[u8], tape: &mut [u8]) {
-    match text::read_text(text, tape) {
-        Outcome::Tape(n) => made::show(tape, n, text),
-        Outcome::NotARequest(line) => say_line(message::NOT_A_REQUEST, line),
-        Outcome::NoRoom(line) => say_line(message::NO_ROOM, line),
+fn bad(number: u64, fault: Fault) {
+    let mut space = io::buffer();
+    let room: &mut [u8] = &mut space;
+    let n = text::write_fault(room, 0, number, fault);
+    let words = &room[..];
+    if n <= words.len() {
+        say(message::BAD);
+        io::write_all(1, &words[0..n]);
     }
 }
 
-fn by_itself(line: &[u8]) {
-    let mut tape = io::buffer();
-    io::write_all(1, line);
-    read(line, &mut tape);
+fn read(line: &[u8], number: u64) {
+    let mut space = [0u8; 24];
+    let record: &mut [u8] = &mut space;
+    match text::read_line(line, record) {
+        Line::Passed => say(message::PASSED_OVER),
+        Line::Request(size) => made::show(record, size, line),
+        Line::Bad(fault) => bad(number, fault),
+    }
 }
 
-// Each line with its line feed.
+fn by_itself(line: &[u8], number: u64) {
+    io::write_all(1, line);
+    io::write_all(1, b"\n");
+    read(line, number);
+}
+
+// Lines are numbered from 1.
 fn lines(text: &[u8]) {
     let mut from = 0;
+    let mut number: u64 = 0;
     while from < text.len() {
         let end = bytes::scan::find(text, from, text.len(), b'\n');
-        if end == text.len() {
-            return;
-        }
-        by_itself(&text[from..end + 1]);
+        number = std::num::wrapping_add_u64(number, 1);
+        by_itself(&text[from..end], number);
         from = end + 1;
     }
-}
-
-fn all(text: &[u8]) {
-    let mut tape = io::buffer();
-    say(message::ALL);
-    read(text, &mut tape);
-}
-
-fn all_in_little_room(text: &[u8]) {
-    let mut tape = [0u8; 42];
-    say(message::LITTLE_ROOM);
-    read(text, &mut tape);
-}
-
-fn each_way(text: &[u8]) {
-    lines(text);
-    all(text);
-    all_in_little_room(text);
 }
 
 fn main() {
     let mut text = io::large_buffer();
     let n = io::read_full(STDIN_FILENO, &mut text);
-    each_way(&text[..n]);
+    lines(&text[..n]);
 }

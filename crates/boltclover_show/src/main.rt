@@ -1,0 +1,30 @@
+// The program for people: runs the tape on standard input, of any length, on a fresh table of begin 128, or of the first argument,
+// and prints each request and its answers in words, then the listing. A tape that goes bad ends with refusal 12, and is named on
+// standard error too.
+mod print;
+mod turns;
+
+use command_line::Ending;
+use refusal::Answer;
+use table::Table;
+
+fn show(t: &mut Table) -> Ending {
+    let ending = turns::show_tape(t);
+    match ending {
+        Ending::Well => print::listing(t, Ending::Well),
+        Ending::Badly => print::listing(t, Ending::Badly),
+        Ending::Misused => Ending::Misused,
+    }
+}
+
+fn show_from_begin() -> Ending {
+    let mut table = [0u16; 2819];
+    match primal::make(&mut table, command_line::begin()) {
+        Answer::Done(_) => show(&mut table),
+        Answer::Refused(_) => command_line::end_bad_begin(),
+    }
+}
+
+fn main() {
+    command_line::end(show_from_begin());
+}

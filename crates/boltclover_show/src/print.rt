@@ -1,0 +1,107 @@
+// What is printed: a record with its answers, the fault of a bad one, the listing. Each function returns whether all of it could be
+// written.
+use command_line::Ending;
+use record::Request;
+use refusal::Answer;
+use table::Table;
+
+// The records in the first n bytes, in words, at a position of the lines.
+fn write_lines(lines: &mut [u8], pos: usize, records: &[u8], n: usize) -> usize {
+    if records.len() < n {
+        return pos;
+    }
+    text::write_records(lines, pos, &records[0..n])
+}
+
+// The number of the end record, which is the last of the answers: two bytes, of which a refusal fills one.
+fn end_number(answers: &[u8], written: usize) -> u16 {
+    if written < 2 {
+        return 0;
+    }
+    if answers.len() < written {
+        return 0;
+    }
+    wide(answers[written - 2])
+}
+
+fn wide(byte: u8) -> u16 {
+    byte as u16
+}
+
+// A refused request answers nothing but its end, and the table is as it was: so it tells why.
+fn write_answers(
+    lines: &mut [u8],
+    pos: usize,
+    t: &Table,
+    request: Request,
+    answers: &[u8],
+    written: usize,
+) -> usize {
+    let number = end_number(answers, written);
+    if number == 0 {
+        return write_lines(lines, pos, answers, written);
+    }
+    explaining::write_refusal(lines, pos, t, request, number)
+}
+
+// The request that stands first on the tape, in so many bytes, and what it answers.
+pub fn record(t: &mut Table, tape: &[u8], size: usize, request: Request) -> bool {
+    let mut space = [0u8; 8192];
+    let out: &mut [u8] = &mut space;
+    let mut line_space = [0u8; 16384];
+    let lines: &mut [u8] = &mut line_space;
+    let mut stop: u16 = 0;
+    let mut refusal: u16 = 0;
+    let mut handled: u32 = 0;
+    let mut written: usize = 0;
+    primal::run(
+        t,
+        tape,
+        out,
+        1,
+        &mut stop,
+        &mut refusal,
+        &mut handled,
+        &mut written,
+    );
+    let p = write_lines(lines, 0, tape, size);
+    let n = write_answers(lines, p, t, request, out, written);
+    command_line::write_first(lines, n)
+}
+
+// The bad record that stands first on the rest of a tape, at such a byte of it.
+pub fn bad_record(at: u64, rest: &[u8]) {
+    let mut space = io::buffer();
+    let line: &mut [u8] = &mut space;
+    let n = text::write_bad_record(line, 0, b"  refused 12", at, rest);
+    command_line::write_first(line, n);
+    let m = text::write_bad_record(line, 0, b"bad record", at, rest);
+    command_line::complain_first(line, m);
+}
+
+fn entries(out: &[u8], written: usize) -> bool {
+    let mut space = [0u8; 16384];
+    let lines: &mut [u8] = &mut space;
+    let n = write_lines(lines, 0, out, written);
+    command_line::write_first(lines, n)
+}
+
+fn list(t: &Table) -> bool {
+    let mut space = [0u8; 8192];
+    let out: &mut [u8] = &mut space;
+    if !command_line::write_out(b"listing\n") {
+        return false;
+    }
+    match primal::list(t, out) {
+        Answer::Done(written) => entries(out, written),
+        Answer::Refused(_) => false,
+    }
+}
+
+// The listing after the tape, which ended so.
+pub fn listing(t: &Table, ending: Ending) -> Ending {
+    if !list(t) {
+        return Ending::Badly;
+    }
+    ending
+}

@@ -1,0 +1,151 @@
+// Refusals in words that say which node or field, and what stands there.
+use crate::fields::narrow_at;
+use crate::fields::put;
+use crate::pieces::nth;
+use crate::writing::write_form;
+use crate::writing::write_named;
+use decimals::write_bytes;
+use record::Kind;
+
+// Why a request is refused: each has its line in REASONS, with up to three numbers.
+pub const PAST_THE_TABLE: usize = 1;
+
+pub const EMPTY_SLOT: usize = 2;
+
+pub const NO_VERTEX: usize = 3;
+
+pub const NO_VIRTUAL_VERTEX: usize = 4;
+
+pub const INSIDE: usize = 5;
+
+pub const SAME_NODE: usize = 6;
+
+pub const TOUCH_NO_DEFECT: usize = 7;
+
+pub const TOUCH_OUTSIDE: usize = 8;
+
+pub const SHRINKS: usize = 9;
+
+pub const STAYS: usize = 10;
+
+pub const BOTH_STAY: usize = 11;
+
+pub const NO_SLOT_LEFT: usize = 12;
+
+pub const EXPAND_PAST_THE_TABLE: usize = 13;
+
+pub const EXPAND_DEFECT: usize = 14;
+
+pub const EXPAND_EMPTY: usize = 15;
+
+pub const EXPAND_INSIDE: usize = 16;
+
+pub const EXPAND_STAYS: usize = 17;
+
+pub const EXPAND_GROWS: usize = 18;
+
+// Marks as in a record's form, on the numbers put side by side.
+const REASONS: [u8; 796] = *b"|  refused 3: node #n0 is past the last slot, 255
+|  refused 3: blossom slot #n0 is empty
+|  refused 3: the vertex at node #n0 is none
+|  refused 3: the virtual vertex is none
+|  refused 4: node #n0 is inside blossom #n1
+|  refused 5: both nodes are #n0
+|  refused 6: touch #n1 of node #n0 is no defect: those are below #n2
+|  refused 6: touch #n1 is not inside node #n0
+|  refused 7: node #n0 shrinks
+|  refused 7: node #n0 stays
+|  refused 7: nodes #n0 and #n1 stay
+|  refused 8: no slot is left for a blossom: #n0 defect slots, and #n1 blossoms made
+|  refused 11: node #n0 is past the last slot, 255
+|  refused 11: node #n0 is a defect
+|  refused 11: blossom slot #n0 is empty
+|  refused 11: blossom #n0 is inside blossom #n1
+|  refused 11: blossom #n0 stays
+|  refused 11: blossom #n0 grows
+";
+
+// Why a record is bad.
+const CUT_SHORT: usize = 1;
+
+const NO_RECORD: usize = 2;
+
+const ANSWER: usize = 3;
+
+const OTHER_LENGTH: usize = 4;
+
+const FAULTS: [u8; 136] = *b"|cut short
+|no record has kind #n0
+|kind #n0 is an answer's, and a tape holds requests
+|length #n1 for kind #n0, whose records have #n2
+";
+
+fn write_numbers(out: &mut [u8], pos: usize, form: &[u8], a: u16, b: u16, c: u16) -> usize {
+    let mut numbers = [0u8; 6];
+    put(&mut numbers, 0, a as u32, 2);
+    put(&mut numbers, 2, b as u32, 2);
+    put(&mut numbers, 4, c as u32, 2);
+    write_form(out, pos, form, 3, &numbers)
+}
+
+// The line of a reason.
+pub fn write_reason(out: &mut [u8], pos: usize, reason: usize, a: u16, b: u16, c: u16) -> usize {
+    write_numbers(out, pos, nth(&REASONS, b'|', reason), a, b, c)
+}
+
+fn kind_fault(kind: Kind) -> usize {
+    match kind {
+        Kind::Conflict => CUT_SHORT,
+        Kind::VirtualConflict => CUT_SHORT,
+        Kind::Expansion => CUT_SHORT,
+        Kind::Reset => CUT_SHORT,
+        Kind::List => CUT_SHORT,
+        Kind::Speed => ANSWER,
+        Kind::Create => ANSWER,
+        Kind::Expand => ANSWER,
+        Kind::End => ANSWER,
+        Kind::Pair => ANSWER,
+        Kind::VirtualPair => ANSWER,
+        Kind::Other => NO_RECORD,
+    }
+}
+
+// Which fault a bad record has. A tape that is no tape at all is told by its kind sooner than by its length.
+fn fault_of(tape: &[u8], kind: Kind, length: u16) -> usize {
+    if tape.len() < 4 {
+        return CUT_SHORT;
+    }
+    let fault = kind_fault(kind);
+    if fault != CUT_SHORT {
+        return fault;
+    }
+    if narrow_at(tape, 0) != length {
+        return OTHER_LENGTH;
+    }
+    CUT_SHORT
+}
+
+// Why the record that stands first on a tape is bad.
+fn write_record_fault(out: &mut [u8], pos: usize, tape: &[u8]) -> usize {
+    let number = narrow_at(tape, 2);
+    let layout = layouts::layout_of(number);
+    let length = layout.length;
+    let kind = layout.kind;
+    let fault = fault_of(tape, kind, length);
+    write_numbers(
+        out,
+        pos,
+        nth(&FAULTS, b'|', fault),
+        number,
+        narrow_at(tape, 0),
+        length,
+    )
+}
+
+// The same after some words, with the byte of the tape at which the record stands: as "refused 12 at byte 262: cut short".
+pub fn write_bad_record(out: &mut [u8], pos: usize, words: &[u8], at: u64, tape: &[u8]) -> usize {
+    let w = write_bytes(out, pos, words);
+    let p = write_named(out, w, b" at byte ", at);
+    let q = write_bytes(out, p, b": ");
+    write_record_fault(out, q, tape)
+}
