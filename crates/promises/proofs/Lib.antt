@@ -1,10 +1,16 @@
 pub mod Accepted
 pub mod Determining
 pub mod Unique
+pub mod NumbersAsAnswers
 pub mod UniqueForC
 pub mod RunCounts
 pub mod TapeEnd
 pub mod UnreadRest
+pub mod SoundLeft
+pub mod SoundAfter
+pub mod RunInARow
+pub mod BytesLeft
+pub mod BytesAfter
 pub mod TwoCalls
 pub mod EitherOrder
 pub mod DoingLittle
