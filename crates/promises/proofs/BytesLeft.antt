@@ -1,11 +1,9 @@
 -- What whatever keeps a promise leaves in the lent bytes, call by call.
-use mathlib.Core.Path.{_≡_, refl, ap, sym, _∙_}
-use mathlib.Core.Bool.{Bool}
-use mathlib.Core.List.{List, [], _∷_, _++_}
-use Prim.Native.Nat.{ℕ, zero, suc, _+_, _-_, _≤_}
+use mathlib.Core.Path.{_≡_, refl, ap, _∙_}
+use mathlib.Core.List.{List, [], _++_}
+use Prim.Native.Nat.{ℕ, _-_, _≤_}
 use native.Mathlib.Nat.{zero-add}
 use native.Mathlib.Omega.{arith}
-use lib.Dec.{T}
 use lib.ListN.{length, drop}
 use Rattle.table.specs.Words.{tableOf}
 use Rattle.table.proofs.WordsOfSlots.{slots-length}
@@ -18,10 +16,9 @@ use Rattle.refusal.specs.Refusal.{answerWritten}
 use Rattle.record.specs.declared.request.Request.{Request}
 use Rattle.record.specs.declared.answer.Record.{Record}
 use Rattle.record.specs.Writing.{Out, outOf, writeAll, bytesOf}
-use Rattle.rules.specs.Act.{Act, World, worldOf, run, skip}
-use Rattle.rules.specs.Sound.{sound}
-use Rattle.rules.specs.Calls.{actOf, actBy, verdict, answered}
-use Rattle.rules.specs.Run.{Ran, unsound, ran, Ended, began, runTape, runFrom, Between}
+use Rattle.rules.specs.Act.{World, worldOf, run, skip}
+use Rattle.rules.specs.Calls.{actOf, verdict, answered}
+use Rattle.rules.specs.Run.{Ran, unsound, ran, Ended, runTape}
 use Rattle.kept.proofs.Wholes.{to-whole}
 use Rattle.listed.proofs.ListingRoom.{run-written}
 use Rattle.commands.proofs.AnsweredBytes.{answered-bytes}
@@ -29,7 +26,7 @@ use Rattle.outcome.specs.Handled.{Outcome}
 use Rattle.outcome.specs.Call.{Call}
 use Rattle.outcome.specs.Tape.{HandsOut, Tape}
 use Rattle.promises.specs.InARow.{requestsOf, inARow}
-use Rattle.promises.proofs.Accepted.{Done, done}
+use Rattle.promises.proofs.Accepted.{done, answered-act}
 use Rattle.promises.proofs.Determining.{tape-ran}
 use Rattle.promises.proofs.RunInARow.{run-in-row}
 
@@ -54,11 +51,10 @@ left rs bytes bytes′ written h e =
 
 -- ---- requests
 
-module _ (q : Request) (words bytes : List ℕ) (r : Answer) (words′ bytes′ : List ℕ) where
-  accepted-said : verdict q (tableOf words) (length bytes) ≡ W.Accepted → answered q (length bytes) (tableOf words) .said ≡ actOf q (tableOf words) .said
-  unfolding answered
-  accepted-said e = rw e
+pub call-fits : (q : Request) (words bytes : List ℕ) → length (bytesOf (answered q (length bytes) (tableOf words) .said)) ≤ length bytes
+call-fits q words bytes = answered-bytes (tableOf words) (slots-length words) (length bytes) q .1
 
+module _ (q : Request) (words bytes : List ℕ) (r : Answer) (words′ bytes′ : List ℕ) where
   refused-said : (n : Refusal) → verdict q (tableOf words) (length bytes) ≡ W.Refused n → answered q (length bytes) (tableOf words) .said ≡ []
   unfolding answered skip
   refused-said n e = rw e
@@ -70,7 +66,7 @@ module _ (q : Request) (words bytes : List ℕ) (r : Answer) (words′ bytes′ 
       (r ≡ A.Done (length answers)) × (bytes′ ≡ answers ++ drop (length answers) bytes)
   accepted-left e h =
       let d = done q words bytes words′ bytes′ r e h in
-      let fits = rw (accepted-said e) at (answered-bytes (tableOf words) (slots-length words) (length bytes) q .1) in
+      let fits = rw (answered-act q (tableOf words) (length bytes) e) at (call-fits q words bytes) in
       let l = left (actOf q (tableOf words) .said) bytes bytes′ (answerWritten r) fits (d .out) in
       (d .answer ∙ ap A.Done (l .0), l .1)
 
@@ -82,7 +78,7 @@ module _ (q : Request) (words bytes : List ℕ) (r : Answer) (words′ bytes′ 
 
   left-by : (v : Verdict) → verdict q (tableOf words) (length bytes) ≡ v → Call q words bytes r words′ bytes′ → Left (bytesOf (answered q (length bytes) (tableOf words) .said)) bytes (answerWritten r) bytes′
   unfolding bytesOf
-  left-by W.Accepted e h = let l = accepted-left e h in rw (accepted-said e) (ap answerWritten (l .0), l .1)
+  left-by W.Accepted e h = let l = accepted-left e h in rw (answered-act q (tableOf words) (length bytes) e) (ap answerWritten (l .0), l .1)
   left-by (W.Refused n) e h = let l = refused-left n e h in rw (refused-said n e) (ap answerWritten (l .0), l .2)
 
   pub call-left : Call q words bytes r words′ bytes′ → Left (bytesOf (answered q (length bytes) (tableOf words) .said)) bytes (answerWritten r) bytes′
@@ -94,11 +90,12 @@ module _ (words bytes tape : List ℕ) (stop refusal handled written : ℕ) (res
   -- table and bytes after so many requests of the tape in a row
   pub record Row : Type 0 where
     pub table : tableOf words′ ≡ inARow (requestsOf handled tape) (tableOf words) .table
+    pub fits : length (bytesOf (inARow (requestsOf handled tape) (tableOf words) .said)) ≤ length bytes
     pub bytes-left : Left (bytesOf (inARow (requestsOf handled tape) (tableOf words) .said)) bytes written bytes′
 
   none-done : handled ≡ 0 → written ≡ 0 → words′ ≡ words → bytes′ ≡ bytes → Row
   unfolding requestsOf inARow skip bytesOf
-  none-done e f g k = record { table = rw (e, g); bytes-left = rw (e, f, k) (refl, refl) }
+  none-done e f g k = record { table = rw (e, g); fits = rw e (omega arith); bytes-left = rw (e, f, k) (refl, refl) }
 
   row-done :
       worldOf words′ bytes′ written ≡ run (worldOf words bytes 0) (inARow (requestsOf handled tape))
@@ -108,26 +105,25 @@ module _ (words bytes tape : List ℕ) (stop refusal handled written : ℕ) (res
   row-done e fits =
       record {
         table = ap (λ (w : World). w .table) e;
+        fits = fits;
         bytes-left = left (inARow (requestsOf handled tape) (tableOf words) .said) bytes bytes′ written fits (ap (λ (w : World). w .out) e);
       }
 
   -- what is known of a run that was not refused
-  abbrev Ran′ : Ended → Type 0
-  Ran′ e =
+  abbrev AllDone : Ended → Type 0
+  AllDone e =
       (e .progress .world ≡ run (worldOf words bytes 0) (inARow (requestsOf (e .progress .handled) tape)))
       × (length (bytesOf (inARow (requestsOf (e .progress .handled) tape) (tableOf words) .said)) ≤ length bytes - 0)
 
-  row-by : (x : Ran) → ((e : Ended) → x ≡ ran e → Ran′ e) → HandsOut x words bytes tape stop refusal handled written rest words′ bytes′ → Row
+  row-by : (x : Ran) → ((e : Ended) → x ≡ ran e → AllDone e) → HandsOut x words bytes tape stop refusal handled written rest words′ bytes′ → Row
   row-by unsound f h = none-done (h .2) (h .3) (h .5) (h .6)
   row-by (ran e) f h =
-      let g : Ran′ e = f e refl in
-      let k : Ran′ e = g in
-      row-done (rw (h .2) (h .4 ∙ k .0)) (rw (h .2) (omega (arith, k .1)))
+      let k : AllDone e = f e refl in row-done (rw (h .2) (h .4 ∙ k .0)) (rw (h .2) (omega (arith, k .1)))
 
   pub run-left : (allowance : ℕ) → Tape allowance words bytes tape stop refusal handled written rest words′ bytes′ → Row
   run-left allowance h =
       row-by (runTape allowance (worldOf words bytes 0) tape)
       (λ e q.
-        let o = tape-ran allowance (worldOf words bytes 0) tape e q in
-        rw (o .1) at (run-in-row allowance (worldOf words bytes 0) tape (to-whole (tableOf words) (slots-length words) (o .0))))
+      let o = tape-ran allowance (worldOf words bytes 0) tape e q in
+      rw (o .1) at (run-in-row allowance (worldOf words bytes 0) tape (to-whole (tableOf words) (slots-length words) (o .0))))
       h

@@ -8,9 +8,12 @@ pub mod TapeEnd
 pub mod UnreadRest
 pub mod SoundLeft
 pub mod SoundAfter
+pub mod InARowExamples
 pub mod RunInARow
 pub mod BytesLeft
 pub mod BytesAfter
+pub mod LeftForC
+pub mod AfterForC
 pub mod TwoCalls
 pub mod EitherOrder
 pub mod DoingLittle

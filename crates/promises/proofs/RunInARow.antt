@@ -26,6 +26,7 @@ use Rattle.kept.proofs.Serving.{served-whole}
 use Rattle.commands.proofs.AnsweredBytes.{bytes-joined, ended-fits}
 use Rattle.commands.proofs.CommandsFit.{verdict-in-a-run, served-written}
 use Rattle.promises.specs.InARow.{requestsOf, answeredAndEnded, inARow}
+use Rattle.promises.proofs.TapeEnd.{first-read}
 
 -- ---- one request
 
@@ -81,10 +82,6 @@ record InRow (p : Progress) (e : Ended) : Type 0 where
 at-once : (s : Stop) (p : Progress) → InRow p (stopped s p)
 unfolding requestsOf inARow skip bytesOf
 at-once s p = record { more = 0; handled = omega arith; world = sym (run-skip (p .world)); fits = omega arith }
-
-first-read : (n : ℕ) (tape : List ℕ) (q : Request) (size : ℕ) → reading.read tape ≡ G.Request q size → requestsOf (suc n) tape ≡ q ∷ requestsOf n (drop size tape)
-unfolding requestsOf
-first-read n tape q size e = rw e
 
 one-more :
     (p : Progress) (q : Request) (size : ℕ) (e : Ended)

@@ -1,5 +1,5 @@
 -- What whatever keeps a promise leaves of the table, call by call: the verdict, the test of begin and the run's outcome as variables.
-use mathlib.Core.Path.{_≡_, refl, ap, sym, _∙_}
+use mathlib.Core.Path.{_≡_, refl, ap}
 use mathlib.Core.Bool.{Bool, true, false}
 use mathlib.Core.List.{List}
 use Prim.Native.Nat.{ℕ}

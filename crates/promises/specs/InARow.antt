@@ -6,6 +6,7 @@ use Rattle.record.specs.declared.request.Request.{Request}
 use Rattle.record.specs.declared.request.Reading.{Reading}
 use Rattle.record.specs.declared.request.Reading.the-variants as G
 use Rattle.record.specs.declared.answer.Record.the-variants as R
+use Rattle.record.specs.Records.{requestBytes}
 use Rattle.record.specs.Reading as reading
 use Rattle.rules.specs.Act.{Act, skip, _then_}
 use Rattle.rules.specs.Calls.{verdict, verdictNumber, answered}
@@ -19,6 +20,11 @@ requestAnd more (G.Refused n) tape = []
 unfoldable pub requestsOf : ℕ → List ℕ → List Request
 requestsOf zero tape = []
 requestsOf (suc n) tape = requestAnd (requestsOf n) (reading.read tape) tape
+
+-- the bytes of requests one after another, as a tape holds them
+unfoldable pub tapeOf : List Request → List ℕ
+tapeOf [] = []
+tapeOf (q ∷ qs) = requestBytes q ++ tapeOf qs
 
 -- one request: its records and then its end record, "0 or the refusal"; "A refused request yields only its end record". A run goes on
 -- with 4,102 bytes or more, and with any such room a request is answered the same (`verdict-in-a-run` of CommandsFit).
