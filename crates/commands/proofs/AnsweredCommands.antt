@@ -1,11 +1,10 @@
 -- What the answer to one of the three requests says, refused or accepted: commands alone, at most 510, and where the request is
 -- accepted there is room for them.
 use mathlib.Core.Path.{_≡_, refl}
-use mathlib.Core.List.{List, [], _∷_, _++_}
-use Prim.Native.Nat.{ℕ, _+_, _≤_}
+use Prim.Native.Nat.{ℕ, _≤_}
 use native.Mathlib.Omega.{arith}
 use lib.Dec.{T}
-use lib.ListN.{length, length-append}
+use lib.ListN.{length}
 use borrow.Author.Tests.{ltb-false}
 use Rattle.table.specs.Table.{Table}
 use Rattle.table.proofs.Laws.{Full}
@@ -13,15 +12,11 @@ use Rattle.refusal.specs.declared.Verdict.{Verdict}
 use Rattle.refusal.specs.declared.Verdict.the-variants as W
 use Rattle.record.specs.declared.request.Request.{Request}
 use Rattle.record.specs.declared.request.Request.the-variants as Q
-use Rattle.record.specs.declared.answer.Record.{Record}
-use Rattle.record.specs.declared.answer.Record.the-variants as R
-use Rattle.record.specs.Records.{answerBytes}
 use Rattle.record.specs.Writing.{bytesOf}
-use Rattle.rules.specs.Act.{World, skip}
+use Rattle.rules.specs.Act.{skip}
 use Rattle.rules.specs.Sound.{sound}
 use Rattle.rules.specs.Refusals.{conflictChecks, virtualChecks, expansionChecks}
 use Rattle.rules.specs.Calls.{actOf, actBy, verdict, answered}
-use Rattle.rules.specs.Run.{room}
 use Rattle.kept.proofs.Wholes.{to-whole}
 use Rattle.commands.proofs.ExpansionCommands.{expansion-commands}
 use Rattle.kept.proofs.Renewing.{Whole}
@@ -86,14 +81,3 @@ module _ (t : Table) (full : Full t) (space : ℕ) where
 
   pub answered-fits : (r : Request) → T (givesCommands r) → length (bytesOf (answered r space t .said)) ≤ space
   answered-fits r g = fits-by r g (verdict r t space) refl
-
--- ---- in a run the end record follows
-
-end-size : (rs : List Record) (n : ℕ) → length (bytesOf (rs ++ R.End n ∷ [])) ≡ length (bytesOf rs) + 6
-unfolding bytesOf answerBytes
-end-size [] n = refl
-end-size (r ∷ rs) n =
-    omega (arith, length-append (answerBytes r) (bytesOf (rs ++ R.End n ∷ [])), length-append (answerBytes r) (bytesOf rs), end-size rs n)
-
-pub ended-fits : (w : World) → Full (w .table) → (r : Request) → T (givesCommands r) → (n : ℕ) → 4102 ≤ room w → length (bytesOf (answered r (room w) (w .table) .said ++ R.End n ∷ [])) ≤ room w
-ended-fits w full r g n h = omega (arith, end-size (answered r (room w) (w .table) .said) n, answered-size (w .table) full (room w) r g)

@@ -1,11 +1,12 @@
--- How many commands a request gives, and that with the room that it asks for all of them are written. The work is in the other
--- files.
+-- How many commands a request gives; that with the room that it asks for all that a request says is written; and that a run, which
+-- goes on with 4,102 bytes or more, drops nothing. The work is in the other files.
 --
 -- A match is two commands. Augmenting matches each − node of the tree with its child, and each − node on the way from the node
 -- to the root once more, with its parent: at most four commands a − node. A − node has a child of its own, and a root is neither
 -- a − node nor such a child; so among 256 nodes there are at most 127 − nodes, in one tree or in two. With the match of the two
 -- nodes named that is 4 · 127 + 2 = 510, two below the 512 of document 01; `worked/proofs/MostCommands` has a conflict that gives 510.
 use mathlib.Core.Path.{_≡_}
+use mathlib.Core.Logic.{_≢_}
 use mathlib.Core.List.{List, [], _∷_, _++_}
 use Prim.Native.Nat.{ℕ, _+_, _-_, _≤_}
 use native.Mathlib.Omega.{arith}
@@ -13,6 +14,7 @@ use lib.Dec.{T}
 use lib.ListN.{length, take, drop}
 use Rattle.table.specs.Table.{Table}
 use Rattle.table.proofs.Laws.{Full}
+use Rattle.refusal.specs.declared.Refusal.the-variants.{NoCommandRoom, NoListingRoom}
 use Rattle.refusal.specs.declared.Verdict.the-variants as W
 use Rattle.record.specs.declared.request.Conflict.{Conflict}
 use Rattle.record.specs.declared.request.VirtualConflict.{VirtualConflict}
@@ -31,7 +33,9 @@ use Rattle.kept.proofs.Wholes.{to-whole}
 use Rattle.commands.proofs.CommandBytes.{written-all, commands-fit}
 use Rattle.commands.proofs.RequestCommands.{conflict-most, virtual-most}
 use Rattle.rules.specs.Commands.{givesCommands, AllCommands}
-use Rattle.commands.proofs.AnsweredCommands.{answered-only, answered-most, answered-fits, ended-fits}
+use Rattle.commands.proofs.AnsweredCommands.{answered-only, answered-most}
+use Rattle.commands.proofs.AnsweredBytes.{answered-bytes, ended-fits}
+use Rattle.commands.proofs.RunVerdicts.{same-verdict, room-enough}
 
 -- ---- how many
 
@@ -75,26 +79,39 @@ commands-placed o rs l h room = placed-split (o .buf) (o .pos) (bytesOf rs) (ome
 pub answered-commands : (t : Table) → Full t → (room : ℕ) (r : Request) → T (givesCommands r) → length (answered r room t .said) ≤ 510
 answered-commands t full room r g = answered-most t full room r g
 
+-- ---- every request, a listing and a reset among them, refused or accepted
+
 -- with the room that is left after a position
 pub answered-written :
     (t : Table)
     → Full t
     → (o : Out) (r : Request)
-    → T (givesCommands r)
     → let said = answered r (length (o .buf) - o .pos) t .said in
     writeAll o said ≡ outOf (placed (o .buf) (o .pos) (bytesOf said)) (o .pos + length (bytesOf said))
-answered-written t full o r g = written-all o (answered r (length (o .buf) - o .pos) t .said) (answered-fits t full (length (o .buf) - o .pos) r g)
+answered-written t full o r =
+    written-all o (answered r (length (o .buf) - o .pos) t .said) (answered-bytes t full (length (o .buf) - o .pos) r .1)
 
--- in a run, which stops at "output below 4,102 bytes", the end record fits as well
+-- in a run, which stops at "output below 4,102 bytes", nothing is dropped: the end record fits as well
 pub served-written :
     (w : World)
     → Full (w .table)
     → (r : Request)
-    → T (givesCommands r)
     → 4102 ≤ room w
     → let said = answered r (room w) (w .table) .said ++ R.End (verdictNumber (verdict r (w .table) (room w))) ∷ [] in
     served r w .out ≡ outOf (placed (w .out .buf) (w .out .pos) (bytesOf said)) (w .out .pos + length (bytesOf said))
 unfolding served
-served-written w full r g h =
+served-written w full r h =
     written-all (w .out) (answered r (room w) (w .table) .said ++ R.End (verdictNumber (verdict r (w .table) (room w))) ∷ [])
-    (ended-fits w full r g (verdictNumber (verdict r (w .table) (room w))) h)
+    (ended-fits w full r (verdictNumber (verdict r (w .table) (room w))) h)
+
+-- and no request is refused for the room: 9, "command room below 4,096 bytes", and 10, "listing room below 16 bytes for each
+-- present defect", are not given where a run goes on, whatever the table
+pub no-room-refusal :
+    (w : World) (r : Request)
+    → 4102 ≤ room w
+    → (verdict r (w .table) (room w) ≢ W.Refused NoCommandRoom) × (verdict r (w .table) (room w) ≢ W.Refused NoListingRoom)
+no-room-refusal w r h = room-enough r (w .table) (room w) h
+
+-- so in a run the verdict does not depend on the room
+pub verdict-in-a-run : (w : World) (r : Request) → 4102 ≤ room w → verdict r (w .table) (room w) ≡ verdict r (w .table) 4102
+verdict-in-a-run w r h = same-verdict r (w .table) (room w) h

@@ -8,4 +8,6 @@ pub mod CommandRecords
 pub mod CommandsAlone
 pub mod CommandBytes
 pub mod AnsweredCommands
+pub mod AnsweredBytes
+pub mod RunVerdicts
 pub mod CommandsFit

@@ -55,7 +55,7 @@ accepted-sound q t room e = go (sound t) refl
     go true d = tt
     go false d = let f : W.Refused NotSound ≡ W.Accepted = sym (unsound-verdict q t room d) ∙ e in let z : _≡_ {A = ℕ} 0 1 = cc in absurd (omega arith)
 
-answered-act : (q : Request) (t : Table) (room : ℕ) → verdict q t room ≡ W.Accepted → answered q room t ≡ actOf q t
+pub answered-act : (q : Request) (t : Table) (room : ℕ) → verdict q t room ≡ W.Accepted → answered q room t ≡ actOf q t
 unfolding answered
 answered-act q t room e = rw e
 

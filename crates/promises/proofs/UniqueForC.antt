@@ -1,49 +1,21 @@
 -- Unique results: any two results that satisfy the promise of a call for C, for the same arguments, coincide. From the uniqueness of the
 -- calls below: a number and the bytes written stand for one answer.
-use mathlib.Core.Path.{_≡_, refl, sym, ap, _∙_}
-use mathlib.Core.Bool.{Bool, true, false}
+use mathlib.Core.Path.{_≡_, sym, ap, _∙_}
 use mathlib.Core.List.{List, []}
 use Prim.Native.Nat.{ℕ}
 use lib.ListN.{length}
-use Rattle.lists.specs.Choice.{pick}
 use Rattle.table.specs.Words.{tableOf}
-use Rattle.counts.specs.Making.{beginFits, fresh}
-use Rattle.refusal.specs.declared.Answer.{Answer}
-use Rattle.refusal.specs.declared.Answer.the-variants as A
-use Rattle.refusal.specs.declared.Refusal.the-variants.{BadBegin}
-use Rattle.refusal.specs.declared.Verdict.{Verdict}
-use Rattle.refusal.specs.declared.Verdict.the-variants as W
-use Rattle.refusal.specs.Refusal.{numberOf, answerNumber, answerWritten}
+use Rattle.counts.specs.Making.{beginFits}
+use Rattle.refusal.specs.Refusal.{answerNumber, answerWritten}
 use Rattle.record.specs.declared.request.Request.{Request}
 use Rattle.record.specs.declared.request.Request.the-variants as Q
-use Rattle.rules.specs.Act.{Act, worldOf}
+use Rattle.rules.specs.Act.{worldOf}
 use Rattle.rules.specs.Calls.{actOf, verdict}
-use Rattle.rules.specs.Run.{Ran, unsound, ran, runTape}
-use Rattle.outcome.specs.Handled.{Outcome}
-use Rattle.outcome.specs.Tape.{HandsOut}
+use Rattle.rules.specs.Run.{runTape}
+use Rattle.outcome.specs.Numbered.{Called, WasReset, WasMade, Run}
 use Rattle.promises.specs.Lent.{Lent}
 use Rattle.promises.proofs.Unique.{make-once, call-once, run-once}
-use Rattle.outcome.specs.Numbered.{Numbered, Called, WasReset, WasMade, RanTape, Run}
-
--- ---- requests
-
-abbrev answerOf : Verdict → ℕ → Answer
-answerOf (W.Refused n) written = A.Refused n
-answerOf W.Accepted written = A.Done written
-
-answered-by :
-    (v : Verdict) (act : Act) (words bytes : List ℕ) (number written : ℕ) (words′ bytes′ : List ℕ)
-    → Numbered v act words bytes number written words′ bytes′
-    → Outcome v act 0 words bytes (answerOf v written) words′ bytes′
-answered-by (W.Refused n) act words bytes number written words′ bytes′ h = (refl, h .2, h .3)
-answered-by W.Accepted act words bytes number written words′ bytes′ h = (refl, h .1)
-
-number-by :
-    (v : Verdict) (act : Act) (words bytes : List ℕ) (number written : ℕ) (words′ bytes′ : List ℕ)
-    → Numbered v act words bytes number written words′ bytes′
-    → (number ≡ answerNumber (answerOf v written)) × (written ≡ answerWritten (answerOf v written))
-number-by (W.Refused n) act words bytes number written words′ bytes′ h = (h .0, h .1)
-number-by W.Accepted act words bytes number written words′ bytes′ h = (h .0, refl)
+use Rattle.promises.proofs.NumbersAsAnswers.{answerOf, answered-by, number-by, madeAnswer, made-by, restOf, hands-out}
 
 pub called-once :
     (q : Request) (words bytes : List ℕ) (number number′ written written′ : ℕ) (words₁ words₂ bytes₁ bytes₂ : List ℕ)
@@ -71,19 +43,6 @@ pub reset-once :
 reset-once words number number′ words₁ words₂ l₁ l₂ h k =
     let same = called-once Q.Reset words [] number number′ 0 0 words₁ words₂ [] [] l₁ l₂ h k in (same .0, same .2)
 
--- ---- making
-
-abbrev madeAnswer : Bool → Answer
-madeAnswer true = A.Done 0
-madeAnswer false = A.Refused BadBegin
-
-made-by :
-    (fits : Bool) (before after : List ℕ) (b number : ℕ)
-    → pick fits ((number ≡ 0) × (tableOf after ≡ fresh b)) ((number ≡ numberOf BadBegin) × (after ≡ before))
-    → (number ≡ answerNumber (madeAnswer fits)) × pick fits ((madeAnswer fits ≡ A.Done 0) × (tableOf after ≡ fresh b)) ((madeAnswer fits ≡ A.Refused BadBegin) × (after ≡ before))
-made-by true before after b number h = (h .0, (refl, h .1))
-made-by false before after b number h = (h .0, (refl, h .1))
-
 pub made-once :
     (before : List ℕ) (b number number′ : ℕ) (after after′ : List ℕ)
     → Lent after
@@ -96,21 +55,6 @@ made-once before b number number′ after after′ l l′ h k =
     let one = made-by (beginFits b) before after b number h in
     let two = made-by (beginFits b) before after′ b number′ k in
     (one .0 ∙ sym (two .0), make-once before b a a after after′ l l′ (one .1) (two .1) .1)
-
--- ---- the run
-
-abbrev restOf : Ran → List ℕ → List ℕ
-restOf unsound tape = tape
-restOf (ran e) tape = e .progress .rest
-
-hands-out :
-    (r : Ran) (words bytes tape : List ℕ) (number stop handled written unread : ℕ) (words′ bytes′ : List ℕ)
-    → RanTape r words bytes tape number stop handled written unread words′ bytes′
-    → (unread ≡ length (restOf r tape)) × HandsOut r words bytes tape stop number handled written (restOf r tape) words′ bytes′
-hands-out unsound words bytes tape number stop handled written unread words′ bytes′ h =
-    (h .4, (h .1, h .0, h .2, h .3, refl, h .5, h .6))
-hands-out (ran e) words bytes tape number stop handled written unread words′ bytes′ h =
-    (h .3, (h .1, h .0, h .2, refl, h .4))
 
 pub ran-once :
     (allowance : ℕ)

@@ -1,0 +1,39 @@
+-- What the requests of a tape are answered, one after another.
+use Prim.Native.Nat.{ℕ, zero, suc}
+use mathlib.Core.List.{List, [], _∷_, _++_}
+use lib.ListN.{drop}
+use Rattle.record.specs.declared.request.Request.{Request}
+use Rattle.record.specs.declared.request.Reading.{Reading}
+use Rattle.record.specs.declared.request.Reading.the-variants as G
+use Rattle.record.specs.declared.answer.Record.the-variants as R
+use Rattle.record.specs.Records.{requestBytes}
+use Rattle.record.specs.Reading as reading
+use Rattle.rules.specs.Act.{Act, skip, _then_}
+use Rattle.rules.specs.Calls.{verdict, verdictNumber, answered}
+
+-- the request that a reading found, and what follows behind its record; a bad record ends the list
+abbrev pub requestAnd : (List ℕ → List Request) → Reading → List ℕ → List Request
+requestAnd more (G.Request q size) tape = q ∷ more (drop size tape)
+requestAnd more (G.Refused n) tape = []
+
+-- the first so many requests of a tape
+unfoldable pub requestsOf : ℕ → List ℕ → List Request
+requestsOf zero tape = []
+requestsOf (suc n) tape = requestAnd (requestsOf n) (reading.read tape) tape
+
+-- the bytes of requests one after another, as a tape holds them
+unfoldable pub tapeOf : List Request → List ℕ
+tapeOf [] = []
+tapeOf (q ∷ qs) = requestBytes q ++ tapeOf qs
+
+-- one request: its records and then its end record, "0 or the refusal"; "A refused request yields only its end record". A run goes on
+-- with 4,102 bytes or more, and with any such room a request is answered the same (`verdict-in-a-run` of CommandsFit).
+unfoldable pub answeredAndEnded : Request → Act
+answeredAndEnded q t =
+    let d = answered q 4102 t in
+    record { table = d .table; said = d .said ++ R.End (verdictNumber (verdict q t 4102)) ∷ [] }
+
+-- requests in a row, each on the table that the one before it left
+unfoldable pub inARow : List Request → Act
+inARow [] = skip
+inARow (q ∷ qs) = answeredAndEnded q then inARow qs
