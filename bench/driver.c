@@ -4,6 +4,7 @@
  *   driver sound TABLE TIMES     the soundness check of a table
  *   driver list TABLE TIMES      its listing
  *   driver reset TIMES           emptying a table
+ *   driver stack TABLE           the bytes of stack that the deepest calls on a table touch
  *
  * TABLE is fresh, half (128 nodes in pairs), pairs (256 nodes in pairs), tree (255 nodes, one path), wide (255 nodes, every pair
  * at the root), nested (85 blossoms, each in the next).
@@ -12,6 +13,7 @@
 #include <stdio.h>
 #include <stdlib.h>
 #include <string.h>
+#include <ucontext.h>
 
 #include "boltclover.h"
 
@@ -98,15 +100,80 @@ static void run(size_t length, unsigned times)
 	printf("requests %u answer bytes %zu\n", (unsigned)requests, bytes);
 }
 
+/* A call on a stack of its own, painted before and looked at afterwards: what is no longer painted was touched. */
+#define STACK 1048576
+#define PAINT 0xa5
+
+static unsigned char *stack;
+static ucontext_t back, there;
+
+static void check(void) { must(boltclover_sound(table) == 1, "the table is not sound"); }
+
+static void list(void)
+{
+	size_t written;
+	must(boltclover_list(table, out, MOST, &written) == 0, "the listing is refused");
+}
+
+/* the node that is matched, and its touch */
+static uint16_t node, touch;
+
+static void match(void)
+{
+	size_t written;
+	must(boltclover_virtual_conflict(table, node, touch, 1, 2, out, MOST, &written) == 0, "the virtual conflict is refused");
+}
+
+static void nothing(void) {}
+
+static size_t touched(void (*call)(void))
+{
+	size_t low = 0;
+	memset(stack, PAINT, STACK);
+	must(getcontext(&there) == 0, "no context");
+	there.uc_stack.ss_sp = stack;
+	there.uc_stack.ss_size = STACK;
+	there.uc_link = &back;
+	makecontext(&there, call, 0);
+	must(swapcontext(&back, &there) == 0, "no context");
+	while (low < STACK && stack[low] == PAINT)
+		low++;
+	return STACK - low;
+}
+
+static void measure(const char *name)
+{
+	size_t own;
+	stack = malloc(STACK);
+	must(stack != NULL, "no memory for a stack");
+	build(name);
+	own = touched(nothing);
+	printf("soundness check %zu\n", touched(check) - own);
+	if (strcmp(name, "tree") == 0 || strcmp(name, "wide") == 0) {
+		node = touch = 254;
+		printf("virtual conflict at the last node %zu\n", touched(match) - own);
+		build(name);
+		node = touch = 0;
+		printf("virtual conflict at the root %zu\n", touched(match) - own);
+	} else if (strcmp(name, "nested") == 0) {
+		node = 255;
+		touch = 0;
+		printf("virtual conflict at the outermost blossom %zu\n", touched(match) - own);
+	}
+	printf("listing afterwards %zu\n", touched(list) - own);
+}
+
 int main(int argc, char **argv)
 {
-	must(argc >= 3, "run TIMES | sound TABLE TIMES | list TABLE TIMES | reset TIMES");
+	must(argc >= 3, "run TIMES | sound TABLE TIMES | list TABLE TIMES | reset TIMES | stack TABLE");
 	if (strcmp(argv[1], "run") == 0) {
 		run(fread(tape, 1, MOST, stdin), atoi(argv[2]));
 	} else if (strcmp(argv[1], "reset") == 0) {
 		build("pairs");
 		for (int i = 0; i < atoi(argv[2]); i++)
 			must(boltclover_reset(table) == 0, "reset is refused");
+	} else if (strcmp(argv[1], "stack") == 0) {
+		measure(argv[2]);
 	} else {
 		size_t written = 0;
 		must(argc == 4, "a table and a number");

@@ -2,7 +2,7 @@
  * Boltclover: the primal half of a decoder that pairs detection events by Edmonds's blossom method, for C, C++ and Rust on x86-64 Linux.
  * Built by `rt staticlib primal_c` as target/staticlib/libprimal_c.a. The library has no memory of its own: it allocates
  * nothing, keeps nothing between calls, reads and writes no file, and wants one function of the C library, memset. Its calls
- * recurse as deep as trees and blossoms are; the most stack seen is 25,208 bytes (a tree of 255 nodes in one line, augmented).
+ * recurse as deep as trees and blossoms are; the most stack seen is 14,648 bytes (a tree of 255 nodes, augmented).
  *
  * What is lent. Every pointer is lent for the call alone. None may be NULL, also where its length is 0. A table is
  * BOLTCLOVER_TABLE_WORDS words, aligned as uint16_t, in any memory of the caller's (static, stack, heap). The objects of one
