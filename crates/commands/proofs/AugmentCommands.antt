@@ -1,5 +1,5 @@
 -- How many commands augmenting at a Grow node gives: at most four for each − node of the table that is one no more.
-use mathlib.Core.Path.{_≡_, refl, ap, _∙_}
+use mathlib.Core.Path.{_≡_, ap, _∙_}
 use mathlib.Core.Logic.{_≢_, inl, inr}
 use mathlib.Core.List.{List, [], _∷_}
 use Prim.Native.Nat.{ℕ, zero, suc, _+_, _*_, _≤_}
@@ -12,29 +12,25 @@ use Rattle.slot.specs.Slot.{Link, Slot}
 use Rattle.table.specs.Table.{Table, at, put}
 use Rattle.table.proofs.Laws.{at-put-same, at-put-other, put-full}
 use Rattle.nodes.specs.Nodes.{outer}
-use Rattle.rules.specs.Act.{skip, change, _then_, look, choose, alter}
+use Rattle.rules.specs.Act.{skip, _then_}
 use Rattle.rules.specs.Slots.{withFirstChild, up}
 use Rattle.rules.specs.Trees.{upward}
 use Rattle.sound_facts.specs.Chain.{Chain}
-use Rattle.rules.specs.Matching.{temporaryMatch, unlessNone, matchSiblings, augmentSubtree, augmentWithin, augmentWholeTree}
-use Rattle.sound_facts.proofs.Reflect.{same-or-not, eqb-yes, eqb-no}
+use Rattle.rules.specs.Matching.{temporaryMatch, augmentSubtree, augmentWithin, augmentWholeTree}
+use Rattle.sound_facts.proofs.Reflect.{same-or-not}
 use Rattle.sound_facts.proofs.Past.{outer-below}
 use Rattle.kept.proofs.WaysUp.{upward-chain, upward-short}
 use Rattle.kept.proofs.Frames.{some-outer}
 use Rattle.kept.proofs.Renewing.{Whole}
 use Rattle.kept.proofs.Below.{Below, top-not-below, not-below-self, tied-most}
 use Rattle.kept.proofs.Cleared.{Task}
-use Rattle.kept.proofs.Trimming.{Aside, Trimmed, trimmed, trimmed-way}
+use Rattle.kept.proofs.Trimming.{Aside, Trimmed, subtree-rule, trimmed, trimmed-way}
 use Rattle.kept.proofs.Augmented.{Augmented, Stem, stem, a-has-child}
-use Rattle.kept.proofs.WholeTrees.{augments}
+use Rattle.kept.proofs.WholeTrees.{augment-top, augment-more, two-steps, augments}
 use Rattle.commands.proofs.MinusNodes.{shrinks, minuses, minuses-fewer}
 use Rattle.commands.proofs.SubtreeCommands.{commands, then-commands, match-commands, match-fewer, siblings-pay, some-commands}
 
 -- ---- the list below one node
-
-subtree-rule : (y : ℕ) (u : Table) → augmentSubtree y u ≡ matchSiblings 256 (at u y .firstChild) (put u y (withFirstChild none (at u y)))
-unfolding augmentSubtree look change _then_ alter
-subtree-rule y u = refl
 
 module _ (t : Table) (y : ℕ) (u : Table) (z : ℕ) (w : Whole t) (grows : at t y .state ≡ S.Grow) (aside : Aside t u z) (y≢z : y ≢ z) where
   abbrev cut : Table
@@ -61,27 +57,14 @@ module _ (t : Table) (y : ℕ) (u : Table) (z : ℕ) (w : Whole t) (grows : at t
         | inr d ↦ rw (at-put-other u y j (withFirstChild none (at u y)) d) at h
       ]
 
-  pub subtree-pays : commands (augmentSubtree y) u + 2 * minuses (augmentSubtree y u .table) ≤ 2 * minuses u
+  pub subtree-pays : commands (augmentSubtree 256 y) u + 2 * minuses (augmentSubtree 256 y u .table) ≤ 2 * minuses u
   subtree-pays =
-      rw (subtree-rule y u, here) (omega (arith, siblings-pay 256 t y cut task (tied-most t), minuses-fewer u cut cut-shrinks))
+      rw (subtree-rule 256 y u, here) (omega (arith, siblings-pay 256 t y cut task (tied-most t), minuses-fewer u cut cut-shrinks))
 
-  pub subtree-some : at t y .firstChild ≢ none → 2 ≤ commands (augmentSubtree y) u
-  subtree-some d = rw (subtree-rule y u, here) (some-commands 255 t y cut task d)
+  pub subtree-some : at t y .firstChild ≢ none → 2 ≤ commands (augmentSubtree 256 y) u
+  subtree-some d = rw (subtree-rule 256 y u, here) (some-commands 255 t y cut task d)
 
 -- ---- up to the root
-
-top-rule : (k x : ℕ) (u : Table) → at (augmentSubtree x u .table) x .parent ≡ none → augmentWithin (suc k) x u ≡ (augmentSubtree x then skip) u
-unfolding augmentWithin look unlessNone choose _then_
-top-rule k x u e = rw (eqb-yes (at (augmentSubtree x u .table) x .parent) none e)
-
-more-rule :
-    (k x p : ℕ) (u : Table) (r : Slot)
-    → at (augmentSubtree x u .table) x .parent ≡ p
-    → p ≢ none
-    → at (augmentSubtree x u .table) p ≡ r
-    → augmentWithin (suc k) x u ≡ (augmentSubtree x then (augmentWithin k (r .parent) then temporaryMatch p (r .link) (r .parent))) u
-unfolding augmentWithin look unlessNone choose _then_
-more-rule k x p u r e d f = rw (e, eqb-no p none d, f)
 
 -- the list below x counts twice: where x is above the node that was augmented at, that pays for the match of the node between
 abbrev Pays : ℕ → Type 0
@@ -94,17 +77,11 @@ Pays k =
     → (cs : List ℕ)
     → Chain (up t) x cs
     → length cs ≤ k
-    → commands (augmentWithin k x) u + commands (augmentSubtree x) u + 4 * minuses (augmentWithin k x u .table) ≤ 4 * minuses u
-
--- a way up, two steps on
-two-up : (f : ℕ → ℕ) (x : ℕ) (cs : List ℕ) → x ≢ none → f x ≢ none → Chain f x cs → (ds : List ℕ) × (Chain f (f (f x)) ds × (suc (suc (length ds)) ≡ length cs))
-two-up f x [] d e c = absurd (d c)
-two-up f x (y ∷ []) d e c = absurd (e (ap f (c .0) ∙ c .2))
-two-up f x (y ∷ (p ∷ cs)) d e c = (cs, (rw (c .0, c .2 .0) (c .2 .2), refl))
+    → commands (augmentWithin k 256 x) u + commands (augmentSubtree 256 x) u + 4 * minuses (augmentWithin k 256 x u .table) ≤ 4 * minuses u
 
 module _ (t : Table) (x : ℕ) (u : Table) (z : ℕ) (w : Whole t) (grows : at t x .state ≡ S.Grow) (x≢z : x ≢ z) (aside : Aside t u z) where
   abbrev v₁ : Table
-  v₁ = augmentSubtree x u .table
+  v₁ = augmentSubtree 256 x u .table
 
   r : Trimmed t x u z v₁
   r = trimmed t x u z w grows aside x≢z
@@ -115,14 +92,14 @@ module _ (t : Table) (x : ℕ) (u : Table) (z : ℕ) (w : Whole t) (grows : at t
   v₁-x : at v₁ x ≡ at x₁ x
   v₁-x = r .aside .agree x x≢z
 
-  here-pays : commands (augmentSubtree x) u + 2 * minuses v₁ ≤ 2 * minuses u
+  here-pays : commands (augmentSubtree 256 x) u + 2 * minuses v₁ ≤ 2 * minuses u
   here-pays = subtree-pays t x u z w grows aside x≢z
 
-  top-pays : (k : ℕ) → up x₁ x ≡ none → commands (augmentWithin (suc k) x) u + commands (augmentSubtree x) u + 4 * minuses (augmentWithin (suc k) x u .table) ≤ 4 * minuses u
+  top-pays : (k : ℕ) → up x₁ x ≡ none → commands (augmentWithin (suc k) 256 x) u + commands (augmentSubtree 256 x) u + 4 * minuses (augmentWithin (suc k) 256 x u .table) ≤ 4 * minuses u
   unfolding _then_ skip
   top-pays k e =
-      let rule = top-rule k x u (rw v₁-x e) in
-      let said = then-commands (augmentSubtree x) skip u in
+      let rule = augment-top k 256 x u (rw v₁-x e) in
+      let said = then-commands (augmentSubtree 256 x) skip u in
       rw rule (omega (arith, said, here-pays))
 
   module _ (d : up x₁ x ≢ none) where
@@ -146,26 +123,26 @@ module _ (t : Table) (x : ℕ) (u : Table) (z : ℕ) (w : Whole t) (grows : at t
 
     module _ (k : ℕ) (cs : List ℕ) (c : Chain (up t) x cs) (enough : length cs ≤ suc k) where
       abbrev v₂ : Table
-      v₂ = augmentWithin k a v₁ .table
+      v₂ = augmentWithin k 256 a v₁ .table
 
-      rule : augmentWithin (suc k) x u ≡ (augmentSubtree x then (augmentWithin k a then temporaryMatch p l a)) u
-      rule = more-rule k x p u (at x₁ p) (rw v₁-x) d (r .aside .agree p (beside p (s .minus .has-child)))
+      rule : augmentWithin (suc k) 256 x u ≡ (augmentSubtree 256 x then (augmentWithin k 256 a then temporaryMatch p l a)) u
+      rule = augment-more k 256 x p u (at x₁ p) (rw v₁-x) d (r .aside .agree p (beside p (s .minus .has-child)))
 
       ds : (ds : List ℕ) × (Chain (up x₁) a ds × (suc (suc (length ds)) ≡ length cs))
-      ds = two-up (up x₁) x cs (some-outer t (w .full) x (rw grows tt)) d (trimmed-way t x u z v₁ (w .full) r cs c)
+      ds = two-steps (up x₁) x cs (some-outer t (w .full) x (rw grows tt)) d (trimmed-way t x u z v₁ (w .full) r cs c)
 
       above : Augmented x₁ a v₁ z v₂
       above = augments k x₁ a v₁ z (r .whole) (s .grows) a≢z (r .aside) (ds .0) (ds .1 .0) (omega (arith, ds .1 .1))
 
-      said : commands (augmentWithin (suc k) x) u ≡ commands (augmentSubtree x) u + (commands (augmentWithin k a) v₁ + 2)
+      said : commands (augmentWithin (suc k) 256 x) u ≡ commands (augmentSubtree 256 x) u + (commands (augmentWithin k 256 a) v₁ + 2)
       said =
-          rw (rule, then-commands (augmentSubtree x) (augmentWithin k a then temporaryMatch p l a) u, then-commands (augmentWithin k a) (temporaryMatch p l a) v₁, match-commands p l a v₂)
+          rw (rule, then-commands (augmentSubtree 256 x) (augmentWithin k 256 a then temporaryMatch p l a) u, then-commands (augmentWithin k 256 a) (temporaryMatch p l a) v₁, match-commands p l a v₂)
 
-      left : augmentWithin (suc k) x u .table ≡ temporaryMatch p l a v₂ .table
+      left : augmentWithin (suc k) 256 x u .table ≡ temporaryMatch p l a v₂ .table
       unfolding _then_
       left = rw rule
 
-      more-pays : Pays k → commands (augmentWithin (suc k) x) u + commands (augmentSubtree x) u + 4 * minuses (augmentWithin (suc k) x u .table) ≤ 4 * minuses u
+      more-pays : Pays k → commands (augmentWithin (suc k) 256 x) u + commands (augmentSubtree 256 x) u + 4 * minuses (augmentWithin (suc k) 256 x u .table) ≤ 4 * minuses u
       more-pays ih =
           let up-pays = ih x₁ a v₁ z (r .whole) (s .grows) a≢z (r .aside) (ds .0) (ds .1 .0) (omega (arith, ds .1 .1)) in
           let at-least = subtree-some x₁ a v₁ z (r .whole) (s .grows) (r .aside) a≢z (a-has-child x₁ x p a (r .whole) s) in

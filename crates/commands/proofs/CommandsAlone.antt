@@ -39,16 +39,16 @@ siblings-only (suc k) n =
     unless-only n _
     (only-look n _ (λ s. only-then (subtree (matchSiblings k) n s) (matchSiblings k (s .sibling)) (subtree-only (matchSiblings k) n s (siblings-only k)) (siblings-only k (s .sibling))))
 
-augment-subtree-only : (n : ℕ) → OnlyCommands (augmentSubtree n)
+augment-subtree-only : (left n : ℕ) → OnlyCommands (augmentSubtree left n)
 unfolding augmentSubtree
-augment-subtree-only n = only-look n _ (λ s. only-then _ _ (only-change _) (siblings-only 256 (s .firstChild)))
+augment-subtree-only left n = only-look n _ (λ s. only-then _ _ (only-change _) (siblings-only left (s .firstChild)))
 
-augment-only : (k n : ℕ) → OnlyCommands (augmentWithin k n)
+augment-only : (k left n : ℕ) → OnlyCommands (augmentWithin k left n)
 unfolding augmentWithin
-augment-only zero n = only-skip
-augment-only (suc k) n =
-    only-then (augmentSubtree n) _ (augment-subtree-only n)
-    (only-look n _ (λ s. unless-only (s .parent) _ (only-look (s .parent) _ (λ p. only-then (augmentWithin k (p .parent)) (temporaryMatch (s .parent) (p .link) (p .parent)) (augment-only k (p .parent)) (match-only (s .parent) (p .link) (p .parent))))))
+augment-only zero left n = only-skip
+augment-only (suc k) left n =
+    only-then (augmentSubtree left n) _ (augment-subtree-only left n)
+    (only-look n _ (λ s. unless-only (s .parent) _ (only-look (s .parent) _ (λ p. only-then (augmentWithin k left (p .parent)) (temporaryMatch (s .parent) (p .link) (p .parent)) (augment-only k left (p .parent)) (match-only (s .parent) (p .link) (p .parent))))))
 
 -- ---- a conflict
 
@@ -69,14 +69,14 @@ unfolding blossomInTree
 blossom-only x y l = only-read _ (λ u. only-choose _ skip (createBlossom _ _ _ x y l) only-skip (create-only _ _ _ x y l))
 
 augment-match-only : (n a : ℕ) (l : Link) (b : ℕ) → OnlyCommands (augmentWholeTree n then temporaryMatch a l b)
-augment-match-only n a l b = only-then (augmentWholeTree n) (temporaryMatch a l b) (augment-only 256 n) (match-only a l b)
+augment-match-only n a l b = only-then (augmentWholeTree n) (temporaryMatch a l b) (augment-only 256 256 n) (match-only a l b)
 
 meet-only : (x y : ℕ) (l : Link) → OnlyCommands (treesMeet x y l)
 unfolding treesMeet
 meet-only x y l =
     only-read _
     (λ u. only-choose _ (blossomInTree x y l) (augmentWholeTree x then augmentWholeTree y then temporaryMatch x l y) (blossom-only x y l)
-    (only-then (augmentWholeTree x) (augmentWholeTree y then temporaryMatch x l y) (augment-only 256 x) (augment-match-only y x l y)))
+    (only-then (augmentWholeTree x) (augmentWholeTree y then temporaryMatch x l y) (augment-only 256 256 x) (augment-match-only y x l y)))
 
 row-only : (p q : Place) (x y : ℕ) (l : Link) → OnlyCommands (rowOf p q x y l)
 row-only P.Free P.Free x y l = match-only x l y
@@ -108,7 +108,7 @@ freed-only : (p : Place) (n : ℕ) → OnlyCommands (freed p n)
 freed-only P.Free n = only-skip
 freed-only (P.Paired p) n = only-skip
 freed-only P.Virtual n = only-skip
-freed-only P.Tree n = augment-only 256 n
+freed-only P.Tree n = augment-only 256 256 n
 
 pub virtual-only : (c : VirtualConflict) → OnlyCommands (virtualConflict c)
 unfolding virtualConflict

@@ -1,6 +1,7 @@
 -- On a sound table no budget is used up: with every larger one the rules do and say the same. So the rules, which have budgets to
 -- end on any table, are 01's rules, which have none.
 use mathlib.Core.Path.{_≡_}
+use mathlib.Core.Logic.{_≢_}
 use Prim.Native.Nat.{ℕ, _≤_}
 use lib.Dec.{T}
 use Rattle.slot.specs.declared.state.State.the-variants as S
@@ -18,14 +19,16 @@ use Rattle.rules.specs.Slots.{withFirstChild, up, next}
 use Rattle.rules.specs.Walk.{walk}
 use Rattle.rules.specs.Sound.{sound, children, nextInRing, ringOf}
 use Rattle.rules.specs.Trees.{upward, rootWithin, root}
-use Rattle.rules.specs.Matching.{matchSiblings, augmentWithin}
+use Rattle.rules.specs.Matching.{matchSiblings, matchSubtree, augmentWithin, augmentWholeTree}
 use Rattle.rules.specs.Expansion.{expansion}
 use Rattle.rules.specs.Conflict.{blossomInTree}
 use Rattle.rules.specs.Calls.{verdict}
 use Rattle.sound_facts.specs.FactsOfBlossoms.{PresentBlossom}
 use Rattle.kept.proofs.Resolving.{OneTree}
 use Rattle.kept.proofs.Wholes.{to-whole}
-use Rattle.kept.proofs.TreesInPairs.{augment-budget, siblings-budget}
+use Rattle.kept.proofs.Below.{Below}
+use Rattle.kept.proofs.Rows.{second-enough}
+use Rattle.kept.proofs.TreesInPairs.{augment-budget, siblings-budget, subtree-budget}
 use Rattle.kept.proofs.MakingBudgets.{blossomInTreeBy, budgets-suffice}
 use Rattle.kept.proofs.ExpansionBudgets.{expansionWithin, expansion-budget, second-outer-enough}
 use Rattle.kept.proofs.ClimbBudgets.{inside-enough, outer-blossom-enough, upward-enough, root-enough, children-enough, ring-enough}
@@ -59,11 +62,23 @@ module _ (t : Table) (full : Full t) (s : T (sound t)) where
 
   -- ---- rules, commands included
 
-  -- augmenting at a + node, to the root
-  pub augmenting-budget : (x : ℕ) → at t x .state ≡ S.Grow → (k : ℕ) → 256 ≤ k → augmentWithin k x t ≡ augmentWithin 256 x t
+  -- augmenting at a + node: k for the steps to the root, m for every list on the way
+  pub augmenting-budget : (x : ℕ) → at t x .state ≡ S.Grow → (k m : ℕ) → 256 ≤ k → 256 ≤ m → augmentWithin k m x t ≡ augmentWithin 256 256 x t
   augmenting-budget x g = augment-budget t x (to-whole t full s) g
 
-  -- matching the subtrees of its child list
+  -- two trees, "augment at node_1, then node_2": the second, on the table that the first leaves
+  pub augmenting-second-budget :
+      (x y : ℕ)
+      → at t x .state ≡ S.Grow
+      → at t y .state ≡ S.Grow
+      → root t x ≢ root t y
+      → (k m : ℕ)
+      → 256 ≤ k
+      → 256 ≤ m
+      → augmentWithin k m y (augmentWholeTree x t .table) ≡ augmentWithin 256 256 y (augmentWholeTree x t .table)
+  augmenting-second-budget x y g h d = second-enough t x y (to-whole t full s) g h d
+
+  -- matching the subtrees of a + node's child list
   pub matching-subtrees-budget :
       (x : ℕ)
       → at t x .state ≡ S.Grow
@@ -71,6 +86,20 @@ module _ (t : Table) (full : Full t) (s : T (sound t)) where
       → 256 ≤ k
       → matchSiblings k (at t x .firstChild) (alter x (withFirstChild none) t) ≡ matchSiblings 256 (at t x .firstChild) (alter x (withFirstChild none) t)
   matching-subtrees-budget x g = siblings-budget t x (to-whole t full s) g
+
+  -- matching a − node's subtree, on every table u that has the node and all below it as t has them: so too when its turn comes and
+  -- the subtrees of the nodes before it on its list are matched
+  pub matching-subtree-budget :
+      (n : ℕ)
+      → at t n .state ≡ S.Shrink
+      → (u : Table)
+      → Full u
+      → at u n ≡ at t n
+      → ((j : ℕ) → Below t n j → at u j ≡ at t j)
+      → (k : ℕ)
+      → 256 ≤ k
+      → matchSubtree k n u ≡ matchSubtree 256 n u
+  matching-subtree-budget n g = subtree-budget t n (to-whole t full s) g
 
   -- taking a blossom apart, k for every budget
   pub expansion-budget-suffices : (room : ℕ) (e : Expansion) → verdict (Q.Expansion e) t room ≡ W.Accepted → (k : ℕ) → 256 ≤ k → expansionWithin k (e .node .0) t ≡ expansion (e .node .0) t
@@ -80,4 +109,5 @@ module _ (t : Table) (full : Full t) (s : T (sound t)) where
 pub making-budget : (k : ℕ) → 256 ≤ k → (x y : ℕ) (l : Link) (t : Table) → OneTree t x y l → blossomInTreeBy k x y l t ≡ blossomInTree x y l t
 making-budget = budgets-suffice
 
--- The listing's budget is in EachEventOnce, `listing-budget`.
+-- The listing's budget is in EachEventOnce, `listing-budget`. The walks in the tests of soundness need no statement here: SoundFacts
+-- has the tests to say the same as facts in which there is no budget.

@@ -93,7 +93,7 @@ module _ (t : Table) (full : Full t) (s : Sound t) where
       → root t x ≢ root t y
       → RightLink t x l y
       → Sound (temporaryMatch x l y (augmentWholeTree y (augmentWholeTree x t .table) .table) .table)
-  two-trees-keeps x y l g h d r = facts (temporaryMatch x l y (augmentWholeTree y (augmentWholeTree x t .table) .table) .table) (two-trees t x y l (whole t full s) g h d r)
+  two-trees-keeps x y l g h d r = facts (temporaryMatch x l y (augmentWholeTree y (augmentWholeTree x t .table) .table) .table) (two-trees t x y (whole t full s) g h d l r)
 
   -- a virtual conflict at a tree's + node
   pub tree-virtual-keeps :

@@ -90,7 +90,7 @@ module _ (t : Table) (x y : ℕ) (l : Link) (w : Whole t) (x≢y : x ≢ y) (rig
       go (inl e) = rw (one-table x y l t (test-true (sameTree t x y) e)) (h e)
       go (inr e) =
           let d = not↔ (sameTree t x y) .0 e in
-          rw (meet-table x y l t (test-false (sameTree t x y) d)) (two-trees t x y l w gx gy (apart (rw gx tt) d) right)
+          rw (meet-table x y l t (test-false (sameTree t x y) d)) (two-trees t x y w gx gy (apart (rw gx tt) d) l right)
 
   row-whole : (p q : Place) → Spot t x p → Spot t y q → (p ≡ P.Tree → q ≡ P.Tree → at t x .state ≡ S.Grow → at t y .state ≡ S.Grow → T (sameTree t x y) → Whole (blossomInTree x y l t .table)) → Whole (rowOf p q x y l t .table)
   unfolding skip _then_

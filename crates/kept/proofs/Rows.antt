@@ -2,7 +2,7 @@
 use mathlib.Core.Path.{_≡_, refl, ap, sym, _∙_}
 use mathlib.Core.Logic.{_≢_, _⊎_, inl, inr}
 use mathlib.Core.Bool.{Bool, _&&_}
-use Prim.Native.Nat.{ℕ, _<_}
+use Prim.Native.Nat.{ℕ, _≤_, _<_}
 use lib.Dec.{T, eqb, eqb→eq, eqb-refl}
 use Rattle.slot.specs.declared.state.State.the-variants as S
 use Rattle.slot.specs.Number.{none, noVertex}
@@ -13,7 +13,7 @@ use Rattle.nodes.specs.Nodes.{outer}
 use Rattle.rules.specs.Act.{alter}
 use Rattle.rules.specs.Slots.{up}
 use Rattle.rules.specs.Trees.{root}
-use Rattle.rules.specs.Matching.{matchedTo, temporaryMatch, temporaryMatchVirtual, augmentWholeTree}
+use Rattle.rules.specs.Matching.{matchedTo, temporaryMatch, temporaryMatchVirtual, augmentWithin, augmentWholeTree}
 use Rattle.sound_facts.specs.FactsOfNodes.{Free}
 use Rattle.sound_facts.specs.FactsOfBlossoms.{DefectInside}
 use Rattle.sound_facts.proofs.Reflect.{tests, same-or-not}
@@ -26,7 +26,7 @@ use Rattle.kept.proofs.Matches.{RightLink, right-kept, match-first, mat
 use Rattle.kept.proofs.Cleared.{counts-then, match-counts}
 use Rattle.kept.proofs.Trimming.{Aside, counts-back, root-up}
 use Rattle.kept.proofs.Augmented.{Closed, single-closed, Augmented}
-use Rattle.kept.proofs.WholeTrees.{augment-aside, augment-does}
+use Rattle.kept.proofs.WholeTrees.{augment-aside, augment-does, augment-enough}
 
 -- ---- what a match overwrites does not matter
 
@@ -165,7 +165,7 @@ tree-closed t w y =
     }
 
 -- "augment at node_1, then node_2; match node_1, node_2"
-module _ (t : Table) (x y : ℕ) (l : Link) (w : Whole t) (grows-x : at t x .state ≡ S.Grow) (grows-y : at t y .state ≡ S.Grow) (apart : root t x ≢ root t y) where
+module _ (t : Table) (x y : ℕ) (w : Whole t) (grows-x : at t x .state ≡ S.Grow) (grows-y : at t y .state ≡ S.Grow) (apart : root t x ≢ root t y) where
   abbrev v₁ : Table
   v₁ = augmentWholeTree x t .table
 
@@ -205,8 +205,12 @@ module _ (t : Table) (x y : ℕ) (l : Link) (w : Whole t) (grows-x : at t x .sta
   ring-x : at v₂ x .ring ≡ at (q₂ .table) x .ring
   ring-x = rw (q₂ .left, q₂ .beside) (q₁ .ring)
 
-  pub two-trees : RightLink t x l y → Whole (temporaryMatch x l y (augmentWholeTree y (augmentWholeTree x t .table) .table) .table)
-  two-trees right =
+  -- the second tree, too, with every larger budget alike
+  pub second-enough : (k left : ℕ) → 256 ≤ k → 256 ≤ left → augmentWithin k left y v₁ ≡ augmentWithin 256 256 y v₁
+  second-enough = augment-enough (q₁ .table) y v₁ x (q₁ .whole) grows-y₁ (λ e. x≢y (sym e)) aside
+
+  pub two-trees : (l : Link) → RightLink t x l y → Whole (temporaryMatch x l y (augmentWholeTree y (augmentWholeTree x t .table) .table) .table)
+  two-trees l right =
       let x₂ = q₂ .table in
       let below-x = outer-below x₂ (q₂ .whole .full) x (rw (free-x .grows) tt) in
       let below-y = outer-below x₂ (q₂ .whole .full) y (rw (q₂ .free .grows) tt) in

@@ -29,8 +29,8 @@ use Rattle.sound_facts.proofs.Past.{outer-below}
 use Rattle.kept.proofs.Frames.{in-or-not, some-outer, Pruned}
 use Rattle.kept.proofs.Renewing.{Whole, Kept, SameCounts, put-counts}
 use Rattle.kept.proofs.Below.{Below, below-join, top-not-below, not-below-self, below-longer, tied-most}
-use Rattle.kept.proofs.Cleared.{Ended, touched, untouched, Cleared, cleared-was, cleared-pruned, cleared-other, cleared-left, counts-then}
-use Rattle.kept.proofs.Subtrees.{siblings-clear}
+use Rattle.kept.proofs.Cleared.{Task, Ended, touched, untouched, Cleared, cleared-was, cleared-pruned, cleared-other, cleared-left, counts-then}
+use Rattle.kept.proofs.Subtrees.{siblings-clear, siblings-alike}
 
 -- z has neither parent nor child in t, and u is t but at z
 pub record Aside (t u : Table) (z : ℕ) : Type 0 where
@@ -55,9 +55,9 @@ pub record Trimmed (t : Table) (y : ℕ) (u : Table) (z : ℕ) (v : Table) : Typ
   pub left : at v z ≡ at u z
   pub same : SameCounts t table
 
-augment-table : (y : ℕ) (u : Table) → augmentSubtree y u .table ≡ matchSiblings 256 (at u y .firstChild) (put u y (withFirstChild none (at u y))) .table
+pub subtree-rule : (left y : ℕ) (u : Table) → augmentSubtree left y u ≡ matchSiblings left (at u y .firstChild) (put u y (withFirstChild none (at u y)))
 unfolding augmentSubtree look change _then_ alter
-augment-table y u = refl
+subtree-rule left y u = refl
 
 -- counts the other way round
 pub counts-back : (t u : Table) → SameCounts t u → SameCounts u t
@@ -94,12 +94,22 @@ module _ (t : Table) (y : ℕ) (u : Table) (z : ℕ) (w : Whole t) (grows : at t
       let f : j ≢ z = λ e. z-not-below (rw e at b) in
       cut-other j d ∙ aside .agree j f
 
-  abbrev v : Table
-  v = augmentSubtree y u .table
+  task : Task t y cut
+  task = record { whole = w; grows = grows; full = full-cut; agree = agree-cut }
 
-  cleared : Cleared t y cut v
-  cleared =
-      rw (augment-table y u, ap (λ (s : Slot). s .firstChild) here-u) (siblings-clear 256 t y cut (record { whole = w; grows = grows; full = full-cut; agree = agree-cut }) (tied-most t))
+  child-u : at u y .firstChild ≡ at t y .firstChild
+  child-u = ap (λ (s : Slot). s .firstChild) here-u
+
+  -- every larger budget of the list does the same, commands included
+  pub subtree-alike : (left : ℕ) → 256 ≤ left → augmentSubtree left y u ≡ augmentSubtree 256 y u
+  subtree-alike left large =
+      rw (subtree-rule left y u, subtree-rule 256 y u, child-u) (siblings-alike left 256 t y cut task (omega (arith, tied-most t)) (tied-most t))
+
+  abbrev v : Table
+  v = augmentSubtree 256 y u .table
+
+  cleared : Cleared t y cut (augmentSubtree 256 y u .table)
+  cleared = rw (subtree-rule 256 y u, child-u) (siblings-clear 256 t y cut task (tied-most t))
 
   abbrev x : Table
   x = cleared .table
@@ -135,7 +145,7 @@ module _ (t : Table) (y : ℕ) (u : Table) (z : ℕ) (w : Whole t) (grows : at t
       below-pair : (peer : ℕ) × Paired x (up t j) peer → (peer : ℕ) × Paired x j peer
       below-pair p = childless-parent j (up t j) (suc k, s) refl (rw (p .1 .here .stays) tt) (p .1 .here .childless) (cleared .each j)
 
-  pub trimmed : Trimmed t y u z (augmentSubtree y u .table)
+  pub trimmed : Trimmed t y u z (augmentSubtree 256 y u .table)
   trimmed =
       record {
         table = x;

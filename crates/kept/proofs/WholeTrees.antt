@@ -1,5 +1,5 @@
--- `augmentWithin`: what augmenting a whole tree leaves, and that every budget that covers the way up to the root, 256 at most,
--- does the same.
+-- `augmentWithin`: what augmenting a whole tree leaves, and that it does the same with every budget of 256 and more, for the way up
+-- to the root and for the lists on it.
 use mathlib.Core.Path.{_≡_, refl, ap, sym, _∙_}
 use mathlib.Core.Logic.{_≢_, _⊎_, inl, inr}
 use mathlib.Core.List.{List, [], _∷_}
@@ -24,24 +24,24 @@ use Rattle.kept.proofs.WaysUp.{upward-chain, upward-short}
 use Rattle.kept.proofs.Frames.{some-outer}
 use Rattle.kept.proofs.Renewing.{Whole}
 use Rattle.kept.proofs.Subtrees.{then-same}
-use Rattle.kept.proofs.Trimming.{Aside, Trimmed, trimmed, trimmed-way}
+use Rattle.kept.proofs.Trimming.{Aside, Trimmed, subtree-alike, trimmed, trimmed-way}
 use Rattle.kept.proofs.Augmented.{Augmented, augmented-top, Stem, stem, a-has-child}
 use Rattle.kept.proofs.Augmenting.{augmented-more}
 
 -- ---- the rule, a step at a time
 
-augment-top : (k x : ℕ) (u : Table) → at (augmentSubtree x u .table) x .parent ≡ none → augmentWithin (suc k) x u ≡ (augmentSubtree x then skip) u
+pub augment-top : (k left x : ℕ) (u : Table) → at (augmentSubtree left x u .table) x .parent ≡ none → augmentWithin (suc k) left x u ≡ (augmentSubtree left x then skip) u
 unfolding augmentWithin look unlessNone choose _then_
-augment-top k x u e = rw (eqb-yes (at (augmentSubtree x u .table) x .parent) none e)
+augment-top k left x u e = rw (eqb-yes (at (augmentSubtree left x u .table) x .parent) none e)
 
-augment-more :
-    (k x p : ℕ) (u : Table) (r : Slot)
-    → at (augmentSubtree x u .table) x .parent ≡ p
+pub augment-more :
+    (k left x p : ℕ) (u : Table) (r : Slot)
+    → at (augmentSubtree left x u .table) x .parent ≡ p
     → p ≢ none
-    → at (augmentSubtree x u .table) p ≡ r
-    → augmentWithin (suc k) x u ≡ (augmentSubtree x then (augmentWithin k (r .parent) then temporaryMatch p (r .link) (r .parent))) u
+    → at (augmentSubtree left x u .table) p ≡ r
+    → augmentWithin (suc k) left x u ≡ (augmentSubtree left x then (augmentWithin k left (r .parent) then temporaryMatch p (r .link) (r .parent))) u
 unfolding augmentWithin look unlessNone choose _then_
-augment-more k x p u r e d f = rw (e, eqb-no p none d, f)
+augment-more k left x p u r e d f = rw (e, eqb-no p none d, f)
 
 -- ---- what it leaves
 
@@ -55,17 +55,17 @@ Augments k =
     → (cs : List ℕ)
     → Chain (up t) x cs
     → length cs ≤ k
-    → Augmented t x u z (augmentWithin k x u .table)
+    → Augmented t x u z (augmentWithin k 256 x u .table)
 
 -- a way up, two steps on
-two-steps : (f : ℕ → ℕ) (x : ℕ) (cs : List ℕ) → x ≢ none → f x ≢ none → Chain f x cs → (ds : List ℕ) × (Chain f (f (f x)) ds × (suc (suc (length ds)) ≡ length cs))
+pub two-steps : (f : ℕ → ℕ) (x : ℕ) (cs : List ℕ) → x ≢ none → f x ≢ none → Chain f x cs → (ds : List ℕ) × (Chain f (f (f x)) ds × (suc (suc (length ds)) ≡ length cs))
 two-steps f x [] d e c = absurd (d c)
 two-steps f x (y ∷ []) d e c = absurd (e (ap f (c .0) ∙ c .2))
 two-steps f x (y ∷ (p ∷ cs)) d e c = (cs, (rw (c .0, c .2 .0) (c .2 .2), refl))
 
 module _ (t : Table) (x : ℕ) (u : Table) (z : ℕ) (w : Whole t) (grows : at t x .state ≡ S.Grow) (x≢z : x ≢ z) (aside : Aside t u z) where
   abbrev v₁ : Table
-  v₁ = augmentSubtree x u .table
+  v₁ = augmentSubtree 256 x u .table
 
   r : Trimmed t x u z v₁
   r = trimmed t x u z w grows aside x≢z
@@ -82,9 +82,18 @@ module _ (t : Table) (x : ℕ) (u : Table) (z : ℕ) (w : Whole t) (grows : at t
   some-x : x ≢ none
   some-x = some-outer t (w .full) x (rw grows tt)
 
-  top-augmented : (k : ℕ) → up x₁ x ≡ none → Augmented t x u z (augmentWithin (suc k) x u .table)
+  -- the list below x by a larger budget
+  list-alike : (left : ℕ) → 256 ≤ left → augmentSubtree left x u ≡ augmentSubtree 256 x u
+  list-alike = subtree-alike t x u z w grows aside x≢z
+
+  top-rule : (k left : ℕ) → 256 ≤ left → up x₁ x ≡ none → augmentWithin (suc k) left x u ≡ (augmentSubtree 256 x then skip) u
+  top-rule k left large e =
+      augment-top k left x u (rw (list-alike left large, v₁-x) e)
+      ∙ then-same (augmentSubtree left x) (augmentSubtree 256 x) skip skip u (list-alike left large) refl
+
+  top-augmented : (k : ℕ) → up x₁ x ≡ none → Augmented t x u z (augmentWithin (suc k) 256 x u .table)
   unfolding _then_ skip
-  top-augmented k e = rw (augment-top k x u (rw v₁-x e)) (augmented-top t x u z v₁ w grows x≢z aside r e)
+  top-augmented k e = rw (top-rule k 256 (omega arith) e) (augmented-top t x u z v₁ w grows x≢z aside r e)
 
   module _ (d : up x₁ x ≢ none) where
     abbrev p : ℕ
@@ -102,23 +111,26 @@ module _ (t : Table) (x : ℕ) (u : Table) (z : ℕ) (w : Whole t) (grows : at t
     a≢z : a ≢ z
     a≢z e = a-has-child x₁ x p a (r .whole) s (ap (λ (j : ℕ). at x₁ j .firstChild) e ∙ r .aside .childless)
 
-    more-rule : (k : ℕ) → augmentWithin (suc k) x u ≡ (augmentSubtree x then (augmentWithin k a then temporaryMatch p (at x₁ p .link) a)) u
-    more-rule k = augment-more k x p u (at x₁ p) (rw v₁-x) d (r .aside .agree p p≢z)
+    more-rule : (k left : ℕ) → 256 ≤ left → augmentWithin (suc k) left x u ≡ (augmentSubtree 256 x then (augmentWithin k left a then temporaryMatch p (at x₁ p .link) a)) u
+    more-rule k left large =
+        let above = augmentWithin k left a then temporaryMatch p (at x₁ p .link) a in
+        augment-more k left x p u (at x₁ p) (rw (list-alike left large, v₁-x)) d (rw (list-alike left large) (r .aside .agree p p≢z))
+        ∙ then-same (augmentSubtree left x) (augmentSubtree 256 x) above above u (list-alike left large) refl
 
-    more-augmented : (k : ℕ) → Augmented x₁ a v₁ z (augmentWithin k a v₁ .table) → Augmented t x u z (augmentWithin (suc k) x u .table)
+    more-augmented : (k : ℕ) → Augmented x₁ a v₁ z (augmentWithin k 256 a v₁ .table) → Augmented t x u z (augmentWithin (suc k) 256 x u .table)
     unfolding _then_
-    more-augmented k q = rw (more-rule k) (augmented-more t x u z v₁ w grows x≢z aside r p a s (augmentWithin k a v₁ .table) q)
+    more-augmented k q = rw (more-rule k 256 (omega arith)) (augmented-more t x u z v₁ w grows x≢z aside r p a s (augmentWithin k 256 a v₁ .table) q)
 
 augments-more : (k : ℕ) → Augments k → Augments (suc k)
 augments-more k ih t x u z w g d aside cs c l = go (same-or-not (up (r t x u z w g d aside .table) x) none)
   where
-    go : (up (r t x u z w g d aside .table) x ≡ none) ⊎ (up (r t x u z w g d aside .table) x ≢ none) → Augmented t x u z (augmentWithin (suc k) x u .table)
+    go : (up (r t x u z w g d aside .table) x ≡ none) ⊎ (up (r t x u z w g d aside .table) x ≢ none) → Augmented t x u z (augmentWithin (suc k) 256 x u .table)
     go (inl e) = top-augmented t x u z w g d aside k e
     go (inr f) =
         let m = r t x u z w g d aside in
-        let ds = two-steps (up (m .table)) x cs (some-x t x u z w g d aside) f (trimmed-way t x u z (augmentSubtree x u .table) (w .full) m cs c) in
+        let ds = two-steps (up (m .table)) x cs (some-x t x u z w g d aside) f (trimmed-way t x u z (augmentSubtree 256 x u .table) (w .full) m cs c) in
         more-augmented t x u z w g d aside f k
-        (ih (m .table) (up (m .table) (up (m .table) x)) (augmentSubtree x u .table) z (m .whole) (s t x u z w g d aside f .grows) (a≢z t x u z w g d aside f) (m .aside) (ds .0) (ds .1 .0) (omega (arith, ds .1 .1)))
+        (ih (m .table) (up (m .table) (up (m .table) x)) (augmentSubtree 256 x u .table) z (m .whole) (s t x u z w g d aside f .grows) (a≢z t x u z w g d aside f) (m .aside) (ds .0) (ds .1 .0) (omega (arith, ds .1 .1)))
 
 augments-zero : Augments zero
 augments-zero t x u z w g d aside [] c l = absurd (some-outer t (w .full) x (rw g tt) c)
@@ -144,8 +156,9 @@ augment-does t x w g = augment-aside t x t none w g (some-outer t (w .full) x (r
 
 -- ---- the budget
 
-abbrev Alike : ℕ → ℕ → Type 0
-Alike k m =
+-- the steps to the root by k or by m, the lists on the way by left or by 256
+abbrev Alike : ℕ → ℕ → ℕ → Type 0
+Alike left k m =
     (t : Table) (x : ℕ) (u : Table) (z : ℕ)
     → Whole t
     → at t x .state ≡ S.Grow
@@ -155,35 +168,47 @@ Alike k m =
     → Chain (up t) x cs
     → length cs ≤ k
     → length cs ≤ m
-    → augmentWithin k x u ≡ augmentWithin m x u
+    → augmentWithin k left x u ≡ augmentWithin m 256 x u
 
-alike-more : (k m : ℕ) → Alike k m → Alike (suc k) (suc m)
-alike-more k m ih t x u z w g d aside cs c l n = go (same-or-not (up (r t x u z w g d aside .table) x) none)
+alike-more : (left : ℕ) → 256 ≤ left → (k m : ℕ) → Alike left k m → Alike left (suc k) (suc m)
+alike-more left large k m ih t x u z w g d aside cs c l n = go (same-or-not (up (r t x u z w g d aside .table) x) none)
   where
-    same-top : up (r t x u z w g d aside .table) x ≡ none → at (augmentSubtree x u .table) x .parent ≡ none
-    same-top e = rw (v₁-x t x u z w g d aside) e
-
-    go : (up (r t x u z w g d aside .table) x ≡ none) ⊎ (up (r t x u z w g d aside .table) x ≢ none) → augmentWithin (suc k) x u ≡ augmentWithin (suc m) x u
-    go (inl e) = augment-top k x u (same-top e) ∙ sym (augment-top m x u (same-top e))
+    go : (up (r t x u z w g d aside .table) x ≡ none) ⊎ (up (r t x u z w g d aside .table) x ≢ none) → augmentWithin (suc k) left x u ≡ augmentWithin (suc m) 256 x u
+    go (inl e) = top-rule t x u z w g d aside k left large e ∙ sym (top-rule t x u z w g d aside m 256 (omega arith) e)
     go (inr f) =
         let q = r t x u z w g d aside in
         let p = up (q .table) x in
         let a = up (q .table) p in
-        let v = augmentSubtree x u .table in
+        let v = augmentSubtree 256 x u .table in
         let match = temporaryMatch p (at (q .table) p .link) a in
         let ds = two-steps (up (q .table)) x cs (some-x t x u z w g d aside) f (trimmed-way t x u z v (w .full) q cs c) in
-        let e : augmentWithin k a v ≡ augmentWithin m a v =
+        let e : augmentWithin k left a v ≡ augmentWithin m 256 a v =
         ih (q .table) a v z (q .whole) (s t x u z w g d aside f .grows) (a≢z t x u z w g d aside f) (q .aside) (ds .0) (ds .1 .0) (omega (arith, ds .1 .1)) (omega (arith, ds .1 .1)) in
-        more-rule t x u z w g d aside f k
-        ∙ then-same (augmentSubtree x) (augmentSubtree x) (augmentWithin k a then match) (augmentWithin m a then match) u refl (then-same (augmentWithin k a) (augmentWithin m a) match match v e refl)
-        ∙ sym (more-rule t x u z w g d aside f m)
+        more-rule t x u z w g d aside f k left large
+        ∙ then-same (augmentSubtree 256 x) (augmentSubtree 256 x) (augmentWithin k left a then match) (augmentWithin m 256 a then match) u refl (then-same (augmentWithin k left a) (augmentWithin m 256 a) match match v e refl)
+        ∙ sym (more-rule t x u z w g d aside f m 256 (omega arith))
 
 no-way : (t : Table) (x : ℕ) (cs : List ℕ) → Whole t → at t x .state ≡ S.Grow → Chain (up t) x cs → ¬ (length cs ≤ 0)
 no-way t x [] w g c l = some-outer t (w .full) x (rw g tt) c
 no-way t x (y ∷ cs) w g c l = omega arith
 
--- two budgets that both suffice do the same, commands included
-pub augment-alike : (k m : ℕ) → Alike k m
-augment-alike zero m t x u z w g d aside cs c l n = absurd (no-way t x cs w g c l)
-augment-alike (suc k) zero t x u z w g d aside cs c l n = absurd (no-way t x cs w g c n)
-augment-alike (suc k) (suc m) t x u z w g d aside cs c l n = alike-more k m (augment-alike k m) t x u z w g d aside cs c l n
+-- budgets that both suffice do the same, commands included
+augment-alike : (left : ℕ) → 256 ≤ left → (k m : ℕ) → Alike left k m
+augment-alike left large zero m t x u z w g d aside cs c l n = absurd (no-way t x cs w g c l)
+augment-alike left large (suc k) zero t x u z w g d aside cs c l n = absurd (no-way t x cs w g c n)
+augment-alike left large (suc k) (suc m) t x u z w g d aside cs c l n = alike-more left large k m (augment-alike left large k m) t x u z w g d aside cs c l n
+
+pub augment-enough :
+    (t : Table) (x : ℕ) (u : Table) (z : ℕ)
+    → Whole t
+    → at t x .state ≡ S.Grow
+    → x ≢ z
+    → Aside t u z
+    → (k left : ℕ)
+    → 256 ≤ k
+    → 256 ≤ left
+    → augmentWithin k left x u ≡ augmentWithin 256 256 x u
+augment-enough t x u z w g d aside k left long large =
+    let o : T (outer t x) = rw g tt in
+    let s = upward-short t (w .full) (w .core) x o in
+    augment-alike left large k 256 t x u z w g d aside (upward t x) (upward-chain t (w .full) (w .core) x o) (omega (arith, s)) s

@@ -48,26 +48,26 @@ module _ (w : World) (n : ℕ) where
       e₃′ ∙ rw (run-some w n _ q, run-look, run-then, e₂′)
 
 pub augment-subtree-step :
-    (t t₁ : Table) (o : Out) (w : World) (n child : ℕ)
+    (t t₁ : Table) (o : Out) (w : World) (n left child : ℕ)
     → child ≡ at t n .firstChild
     → t₁ ≡ alter n (withFirstChild none) t
-    → w ≡ run (world t₁ o) (matchSiblings 256 child)
-    → w ≡ run (world t o) (augmentSubtree n)
+    → w ≡ run (world t₁ o) (matchSiblings left child)
+    → w ≡ run (world t o) (augmentSubtree left n)
 unfolding augmentSubtree
-augment-subtree-step t t₁ o w n child e₁ e₂ e₃ = e₃ ∙ rw (e₁, e₂) (simp runs)
+augment-subtree-step t t₁ o w n left child e₁ e₂ e₃ = e₃ ∙ rw (e₁, e₂) (simp runs)
 
-module _ (w : World) (n : ℕ) where
-  pub augment-spent : (k : ℕ) → k ≡ 0 → w ≡ run w (augmentWithin k n)
+module _ (w : World) (n left : ℕ) where
+  pub augment-spent : (k : ℕ) → k ≡ 0 → w ≡ run w (augmentWithin k left n)
   unfolding augmentWithin
   augment-spent k e = rw (e, run-skip)
 
   pub augment-root :
       (w₁ : World) (k parent : ℕ)
       → (k ≡ 0 → ⊥)
-      → w₁ ≡ run w (augmentSubtree n)
+      → w₁ ≡ run w (augmentSubtree left n)
       → parent ≡ at (w₁ .table) n .parent
       → parent ≡ none
-      → w₁ ≡ run w (augmentWithin k n)
+      → w₁ ≡ run w (augmentWithin k left n)
   unfolding augmentWithin
   augment-root w₁ zero parent h e₁ e₂ q = absurd (h refl)
   augment-root w₁ (suc k) parent h e₁ e₂ q =
@@ -76,14 +76,14 @@ module _ (w : World) (n : ℕ) where
   pub augment-step :
       (w₁ w₂ w₃ : World) (k parent above : ℕ) (l : Link)
       → (k ≡ 0 → ⊥)
-      → w₁ ≡ run w (augmentSubtree n)
+      → w₁ ≡ run w (augmentSubtree left n)
       → parent ≡ at (w₁ .table) n .parent
       → (parent ≡ none → ⊥)
       → l ≡ at (w₁ .table) parent .link
       → above ≡ at (w₁ .table) parent .parent
-      → w₂ ≡ run w₁ (augmentWithin (k - 1) above)
+      → w₂ ≡ run w₁ (augmentWithin (k - 1) left above)
       → w₃ ≡ run w₂ (temporaryMatch parent l above)
-      → w₃ ≡ run w (augmentWithin k n)
+      → w₃ ≡ run w (augmentWithin k left n)
   unfolding augmentWithin
   augment-step w₁ w₂ w₃ zero parent above l h e₁ e₂ q e₃ e₄ e₅ e₆ = absurd (h refl)
   augment-step w₁ w₂ w₃ (suc k) parent above l h e₁ e₂ q e₃ e₄ e₅ e₆ =

@@ -43,34 +43,41 @@ fn cut_children(t: &mut Table, n: Node)
 }
 
 // The + node n keeps its place; its children go.
-fn augment_subtree(t: &mut Table, out: &mut [u8], pos: usize, n: Node) -> usize
-    ensures { λ r. ⌜ worldOf (now (t .exit)) (now (out .exit)) r ≡ run (worldOf (now (t .entry)) (now (out .entry)) pos) (augmentSubtree (n .0)) ⌝ }
+fn augment_subtree(t: &mut Table, out: &mut [u8], pos: usize, n: Node, left: usize) -> usize
+    ensures { λ r. ⌜ worldOf (now (t .exit)) (now (out .exit)) r ≡ run (worldOf (now (t .entry)) (now (out .entry)) pos) (augmentSubtree left (n .0)) ⌝ }
 {
     let first_child = field::first_child(t, n);
     cut_children(t, n);
-    match_siblings(t, out, pos, first_child, 256)
+    match_siblings(t, out, pos, first_child, left)
 }
 
-// To the root, at most so many steps; on return the parent is matched with the ancestor.
-fn augment_within(t: &mut Table, out: &mut [u8], pos: usize, n: Node, steps: usize) -> usize
-    ensures { λ r. ⌜ worldOf (now (t .exit)) (now (out .exit)) r ≡ run (worldOf (now (t .entry)) (now (out .entry)) pos) (augmentWithin steps (n .0)) ⌝ }
+// To the root, at most so many steps; left is the budget of each list on the way. On return the parent is matched with the ancestor.
+fn augment_within(
+    t: &mut Table,
+    out: &mut [u8],
+    pos: usize,
+    n: Node,
+    steps: usize,
+    left: usize,
+) -> usize
+    ensures { λ r. ⌜ worldOf (now (t .exit)) (now (out .exit)) r ≡ run (worldOf (now (t .entry)) (now (out .entry)) pos) (augmentWithin steps left (n .0)) ⌝ }
 {
     if steps == 0 {
         return pos;
     }
-    let p = augment_subtree(t, out, pos, n);
+    let p = augment_subtree(t, out, pos, n, left);
     let parent = field::parent(t, n);
     if parent.0 == slot::number::NO_NODE {
         return p;
     }
     let link = field::link(t, parent);
     let ancestor = field::parent(t, parent);
-    let q = augment_within(t, out, p, ancestor, steps - 1);
+    let q = augment_within(t, out, p, ancestor, steps - 1, left);
     pairing::temporary_match(t, out, q, parent, link, ancestor)
 }
 
 pub fn augment_whole_tree(t: &mut Table, out: &mut [u8], pos: usize, n: Node) -> usize
     ensures { λ r. ⌜ worldOf (now (t .exit)) (now (out .exit)) r ≡ run (worldOf (now (t .entry)) (now (out .entry)) pos) (augmentWholeTree (n .0)) ⌝ }
 {
-    augment_within(t, out, pos, n, 256)
+    augment_within(t, out, pos, n, 256, 256)
 }

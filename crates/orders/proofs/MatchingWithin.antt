@@ -58,31 +58,31 @@ module _ (S : ℕ → Type 0) (making : Bool) (nothing : S none) where
   siblings-acts zero n x = skip-acts S making
   siblings-acts (suc k) n x = siblings-step k n (siblings-acts k) x
 
-  augment-subtree-acts : (n : ℕ) → S n → Acts S making (augmentSubtree n)
+  augment-subtree-acts : (left n : ℕ) → S n → Acts S making (augmentSubtree left n)
   unfolding augmentSubtree
-  augment-subtree-acts n x =
+  augment-subtree-acts left n x =
       look-acts S making n _ x
       (λ s i.
-      then-acts S making (change (alter n (withFirstChild none))) (matchSiblings 256 (s .firstChild))
-      (alter-acts n (withFirstChild none) x (λ r k. record { parent = k .parent; child = nothing; sibling = k .sibling })) (siblings-acts 256 (s .firstChild) (i .child)))
+      then-acts S making (change (alter n (withFirstChild none))) (matchSiblings left (s .firstChild))
+      (alter-acts n (withFirstChild none) x (λ r k. record { parent = k .parent; child = nothing; sibling = k .sibling })) (siblings-acts left (s .firstChild) (i .child)))
 
-  augment-step : (k n : ℕ) → ((a : ℕ) → S a → Acts S making (augmentWithin k a)) → S n → Acts S making (augmentWithin (suc k) n)
+  augment-step : (k left n : ℕ) → ((a : ℕ) → S a → Acts S making (augmentWithin k left a)) → S n → Acts S making (augmentWithin (suc k) left n)
   unfolding augmentWithin
-  augment-step k n ih x =
-      then-acts S making (augmentSubtree n) _ (augment-subtree-acts n x)
+  augment-step k left n ih x =
+      then-acts S making (augmentSubtree left n) _ (augment-subtree-acts left n x)
       (look-acts S making n _ x
       (λ s i.
       unless-acts (s .parent) _
       (look-acts S making (s .parent) _ (i .parent)
-      (λ p j. then-acts S making (augmentWithin k (p .parent)) (temporaryMatch (s .parent) (p .link) (p .parent)) (ih (p .parent) (j .parent)) (match-acts (s .parent) (p .link) (p .parent) (i .parent) (j .parent))))))
+      (λ p j. then-acts S making (augmentWithin k left (p .parent)) (temporaryMatch (s .parent) (p .link) (p .parent)) (ih (p .parent) (j .parent)) (match-acts (s .parent) (p .link) (p .parent) (i .parent) (j .parent))))))
 
-  augment-within-acts : (k n : ℕ) → S n → Acts S making (augmentWithin k n)
+  augment-within-acts : (k left n : ℕ) → S n → Acts S making (augmentWithin k left n)
   unfolding augmentWithin
-  augment-within-acts zero n x = skip-acts S making
-  augment-within-acts (suc k) n x = augment-step k n (augment-within-acts k) x
+  augment-within-acts zero left n x = skip-acts S making
+  augment-within-acts (suc k) left n x = augment-step k left n (augment-within-acts k left) x
 
   pub augment-acts : (n : ℕ) → S n → Acts S making (augmentWholeTree n)
-  augment-acts n x = augment-within-acts 256 n x
+  augment-acts n x = augment-within-acts 256 256 n x
 
   -- ---- hanging a pair into a tree
 

@@ -1,5 +1,5 @@
 -- What a request concerns, on a table with trees 2, 0, 1 and 5, 3, 4, the pair 6, 7, node 8 matched to a virtual vertex and the free
--- blossom 128 of 12, 10, 11.
+-- blossom 128 of 12, 10, 11. That the requests which make it are accepted is computed in `worked/proofs/RulesApply`.
 use mathlib.Core.Path.{_≡_, refl}
 use mathlib.Core.Bool.{true, false}
 use mathlib.Core.List.{List, [], _∷_}
@@ -11,9 +11,12 @@ use Rattle.record.specs.declared.request.Request.{Request}
 use Rattle.rules.specs.Concerns.{concerns, isMaking}
 use Rattle.rules.proofs.Script.{join, border, open-up, after, all-rules}
 
+unfoldable pub mixture : List Request
+mixture = join 0 1 ∷ join 2 0 ∷ join 3 4 ∷ join 5 3 ∷ join 6 7 ∷ border 8 8 18 99 ∷ join 10 11 ∷ join 12 10 ∷ join 12 11 ∷ []
+
 mixed : Table
-unfolding all-rules
-mixed = after (join 0 1 ∷ join 2 0 ∷ join 3 4 ∷ join 5 3 ∷ join 6 7 ∷ border 8 8 18 99 ∷ join 10 11 ∷ join 12 10 ∷ join 12 11 ∷ []) (fresh 128)
+unfolding all-rules mixture
+mixed = after mixture (fresh 128)
 
 -- which of some nodes a request concerns
 unfoldable among : Request → List ℕ → List ℕ

@@ -1,5 +1,6 @@
 -- A short way to write requests and scenarios for the worked examples.
 use Prim.Native.Nat.{ℕ, _+_}
+use mathlib.Core.Bool.{Bool, true, false, _&&_}
 use mathlib.Core.List.{List, [], _∷_}
 use Rattle.table.specs.Table.{Table}
 use Rattle.counts.specs.Making.{fresh}
@@ -8,6 +9,8 @@ use Rattle.record.specs.declared.request.Request.the-variants as Q
 use Rattle.record.specs.declared.answer.Record.{Record}
 use Rattle.record.specs.declared.answer.Speed.the-variants as P
 use Rattle.table.specs.Table.{at, put}
+use Rattle.refusal.specs.declared.Verdict.{Verdict}
+use Rattle.refusal.specs.declared.Verdict.the-variants.{Accepted, Refused}
 use Rattle.counts.specs.Counts.{withDefects, withBlossoms}
 use Rattle.nodes.specs.Place.{place}
 use Rattle.nodes.specs.Climb.{insideWithin, outerBlossomWithin, secondOuterWithin}
@@ -52,6 +55,15 @@ open-up n = Q.Expansion (record { node = nodeOf n })
 unfoldable pub after : List Request → Table → Table
 after [] t = t
 after (r ∷ rs) t = after rs (actOf r t .table)
+
+abbrev pub isAccepted : Verdict → Bool
+isAccepted Accepted = true
+isAccepted (Refused n) = false
+
+-- each of some requests is accepted when its turn comes, with 4,096 bytes of room
+unfoldable pub acceptedInTurn : List Request → Table → Bool
+acceptedInTurn [] t = true
+acceptedInTurn (r ∷ rs) t = let rest = acceptedInTurn rs (actOf r t .table) in isAccepted (verdict r t 4096) && rest
 
 -- what the rule of one more request says, accepted or not
 abbrev pub ruleSays : List Request → Request → Table → List Record

@@ -42,20 +42,21 @@ matchSiblings (suc k) n = unlessNone n (look n λ s. subtree (matchSiblings k) n
 unfoldable pub matchSubtree : ℕ → ℕ → Act
 matchSubtree k n = look n λ s. subtree (matchSiblings k) n s
 
--- "t's child list is cut off and each listed − node matches its subtree in list order"
-unfoldable pub augmentSubtree : ℕ → Act
-augmentSubtree n = look n λ s. change (alter n (withFirstChild none)) then matchSiblings 256 (s .firstChild)
+-- "t's child list is cut off and each listed − node matches its subtree in list order": left is the budget of the list
+unfoldable pub augmentSubtree : ℕ → ℕ → Act
+augmentSubtree left n = look n λ s. change (alter n (withFirstChild none)) then matchSiblings left (s .firstChild)
 
--- "then, if t has a parent p with parent a, augment at a and afterwards match p, a by p's old link"
-unfoldable pub augmentWithin : ℕ → ℕ → Act
-augmentWithin zero n = skip
-augmentWithin (suc k) n =
-    augmentSubtree n
+-- "then, if t has a parent p with parent a, augment at a and afterwards match p, a by p's old link": at most so many steps to the
+-- root, each list on the way with the same budget
+unfoldable pub augmentWithin : ℕ → ℕ → ℕ → Act
+augmentWithin zero left n = skip
+augmentWithin (suc k) left n =
+    augmentSubtree left n
     then look n
     λ s. unlessNone (s .parent)
     (look (s .parent)
-    λ p. augmentWithin k (p .parent) then temporaryMatch (s .parent) (p .link) (p .parent))
+    λ p. augmentWithin k left (p .parent) then temporaryMatch (s .parent) (p .link) (p .parent))
 
 -- "Augmenting at a + node t"
 abbrev pub augmentWholeTree : ℕ → Act
-augmentWholeTree n = augmentWithin 256 n
+augmentWholeTree n = augmentWithin 256 256 n

@@ -1,3 +1,4 @@
+pub mod InTurn
 pub mod Marked
 pub mod RulesApply
 pub mod RefusalExamples

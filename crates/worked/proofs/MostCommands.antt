@@ -2,12 +2,15 @@
 -- their lowest nodes. Each − node is matched with its child and later with its parent, four commands, and the two nodes named are
 -- matched. A free node and one such tree of 255 nodes give as many; a virtual conflict at that tree's lowest node gives one less.
 use mathlib.Core.Path.{_≡_, refl}
+use mathlib.Core.Bool.{true}
 use mathlib.Core.List.{List, [], _∷_, _++_}
 use Prim.Native.Nat.{ℕ, zero, suc}
 use lib.ListN.{length}
 use Rattle.counts.specs.Making.{fresh}
 use Rattle.record.specs.declared.request.Request.{Request}
-use Rattle.rules.proofs.Script.{join, saysAfter, all-rules}
+use Rattle.rules.proofs.Script.{join, acceptedInTurn, saysAfter, all-rules}
+use Rattle.outcome.specs.Handled.{laterVerdict}
+use Rattle.worked.proofs.InTurn.{acceptedLater, played}
 
 -- n with n + 1, then n + 2 with n + 3, and so on, k times
 unfoldable joins : ℕ → ℕ → List Request
@@ -22,3 +25,7 @@ path k n = joins k (suc n) ++ joins k n
 conflict-reaches : length (saysAfter (path 63 0 ++ path 64 127) (join 126 255) (fresh 256)) ≡ 510
 unfolding all-rules joins path
 conflict-reaches = refl
+
+all-accepted : acceptedInTurn (path 63 0 ++ path 64 127 ++ join 126 255 ∷ []) (fresh 256) ≡ true
+unfolding all-rules laterVerdict acceptedLater joins path
+all-accepted = played 256 _ tt tt

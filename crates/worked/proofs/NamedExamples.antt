@@ -2,23 +2,25 @@
 use mathlib.Core.Path.{_≡_, refl}
 use mathlib.Core.Bool.{true, false}
 use mathlib.Core.List.{List, [], _∷_, _++_}
-use Rattle.table.specs.Table.{Table}
-use Rattle.counts.specs.Making.{fresh}
 use Rattle.record.specs.declared.request.Request.{Request}
 use Rattle.rules.specs.Listing.{listing}
 use Rattle.listed.specs.Named.{namedIn, one, times, isListed}
-use Rattle.rules.proofs.Script.{meet, join, border, after, all-rules}
+use Rattle.rules.proofs.Script.{meet, join, border, after, acceptedInTurn, all-rules}
+use Rattle.rules.proofs.RuleExamples.{start, nested}
+use Rattle.outcome.specs.Handled.{laterVerdict}
+use Rattle.worked.proofs.InTurn.{acceptedLater, played}
 
-start : Table
-start = fresh 128
-
--- 128 is a ring of 2, 0, 1; 129 one of 128, 3, 4
-nested : List Request
-nested = join 0 1 ∷ join 2 0 ∷ join 2 1 ∷ join 3 4 ∷ meet 128 3 1 3 11 13 ∷ meet 128 4 2 4 12 14 ∷ []
-
--- .. with 130, a ring of 22, 20, 21
+-- `nested` makes 128, a ring of 2, 0, 1, and 129, one of 128, 3, 4; here with 130, a ring of 22, 20, 21
 beside : List Request
 beside = nested ++ join 20 21 ∷ join 22 20 ∷ join 22 21 ∷ []
+
+accepted :
+    (acceptedInTurn (nested ++ border 129 0 40 99 ∷ []) start ≡ true)
+    × (acceptedInTurn (nested ++ border 129 4 40 99 ∷ []) start ≡ true)
+    × (acceptedInTurn (beside ++ meet 130 129 20 3 50 51 ∷ []) start ≡ true)
+    × (acceptedInTurn (beside ++ border 129 0 40 99 ∷ []) start ≡ true)
+unfolding all-rules laterVerdict acceptedLater start nested beside
+accepted = (played 128 _ tt tt, played 128 _ tt tt, played 128 _ tt tt, played 128 _ tt tt)
 
 -- touched in the inner blossom
 from-below : namedIn (listing (after (nested ++ border 129 0 40 99 ∷ []) start)) ≡ 1 ∷ 2 ∷ 3 ∷ 4 ∷ 0 ∷ []

@@ -1,7 +1,8 @@
 -- Four requests that can come in any order, on one table: one makes a blossom, one augments a tree for a virtual vertex, one takes a
 -- blossom apart, one loads two defects. And why two that both make a blossom are left out.
 use mathlib.Core.Path.{_≡_, refl}
-use mathlib.Core.List.{List, [], _∷_}
+use mathlib.Core.Bool.{true}
+use mathlib.Core.List.{List, [], _∷_, _++_}
 use lib.Dec.{T}
 use Rattle.table.specs.Table.{Table, at}
 use Rattle.table.proofs.Laws.{Full}
@@ -9,17 +10,21 @@ use Rattle.counts.specs.Making.{fresh}
 use Rattle.record.specs.declared.request.Request.{Request}
 use Rattle.rules.specs.Act.{create, expand}
 use Rattle.rules.specs.Sound.{sound}
-use Rattle.rules.proofs.Script.{meet, join, border, open-up, after, saysAfter, numberAfter, grows, shrinks, all-rules}
+use Rattle.rules.proofs.Script.{meet, join, border, open-up, after, acceptedInTurn, saysAfter, numberAfter, grows, shrinks, all-rules}
+use Rattle.outcome.specs.Handled.{laterVerdict}
+use Rattle.worked.proofs.InTurn.{acceptedLater, played}
 use Rattle.kept.proofs.Renewing.{Whole}
 use Rattle.orders.specs.Orders.{Ask, AllAsked, PairwiseApart}
 use Rattle.orders.proofs.Areas.{apart-by-test}
 use Rattle.kept.proofs.Wholes.{to-whole}
 
 -- trees 2, 0, 1 and 5, 3, 4; the blossom 128 of 8, 6, 7 as a − node below 10, with 9 below it
+preparing : List Request
+preparing = join 0 1 ∷ join 2 0 ∷ join 3 4 ∷ join 5 3 ∷ join 6 7 ∷ join 8 6 ∷ join 8 7 ∷ meet 128 9 7 9 17 19 ∷ meet 10 128 10 6 20 16 ∷ []
+
 ready : Table
-unfolding all-rules
-ready =
-    after (join 0 1 ∷ join 2 0 ∷ join 3 4 ∷ join 5 3 ∷ join 6 7 ∷ join 8 6 ∷ join 8 7 ∷ meet 128 9 7 9 17 19 ∷ meet 10 128 10 6 20 16 ∷ []) (fresh 128)
+unfolding all-rules preparing
+ready = after preparing (fresh 128)
 
 ready-full : Full ready
 unfolding all-rules ready
@@ -91,6 +96,13 @@ opening-first = refl
 opening-last : saysAfter (border 5 5 15 99 ∷ join 2 1 ∷ join 20 21 ∷ []) (open-up 128) ready ≡ expand 128 ∷ shrinks 7 ∷ grows 8 ∷ shrinks 6 ∷ []
 unfolding all-rules ready
 opening-last = refl
+
+-- every request, with those that make the table, is accepted when its turn comes
+accepted :
+    (acceptedInTurn (preparing ++ join 20 21 ∷ open-up 128 ∷ border 5 5 15 99 ∷ join 2 1 ∷ []) (fresh 128) ≡ true)
+    × (acceptedInTurn (preparing ++ border 5 5 15 99 ∷ join 2 1 ∷ join 20 21 ∷ open-up 128 ∷ []) (fresh 128) ≡ true)
+unfolding all-rules laterVerdict acceptedLater preparing
+accepted = (played 128 _ tt tt, played 128 _ tt tt)
 
 -- ---- two that make a blossom, both accepted in either order: the first one takes slot 129
 

@@ -12,7 +12,8 @@ use Rattle.rules.specs.Sound.{sound}
 use Rattle.rules.specs.Calls.{verdict, verdictNumber}
 use Rattle.outcome.specs.Handled.{laterVerdict}
 use Rattle.outcome.proofs.Verdicts.{sound-verdict}
-use Rattle.rules.proofs.Script.{meet, join, border, open-up, after, all-rules}
+use Rattle.rules.proofs.Script.{meet, join, border, open-up, after, acceptedInTurn, all-rules}
+use Rattle.worked.proofs.InTurn.{acceptedLater, played}
 
 -- the number that a request is given on the table after some others, with so much room
 record Gives (room : ℕ) (rs : List Request) (r : Request) (n : ℕ) : Type 0 where
@@ -28,9 +29,13 @@ tree = join 0 1 ∷ join 2 0 ∷ []
 blossom : List Request
 blossom = join 0 1 ∷ join 2 0 ∷ join 2 1 ∷ []
 
--- 128 a − node, between the root 4 and 3
+-- 128 a − node, between the root 4 and 3; the three above are what this one begins with
 minus : List Request
 minus = join 0 1 ∷ join 2 0 ∷ join 2 1 ∷ meet 128 3 1 3 11 13 ∷ meet 4 128 4 0 14 10 ∷ []
+
+accepted : (acceptedInTurn minus (fresh 128) ≡ true) × (acceptedInTurn tree (fresh 256) ≡ true) × (acceptedInTurn tree (fresh 255) ≡ true)
+unfolding all-rules laterVerdict acceptedLater minus tree
+accepted = (played 128 _ tt tt, played 256 _ tt tt, played 255 _ tt tt)
 
 -- These tables are sound, which is computed once for each. So the number is that of the later checks.
 later : ℕ → List Request → Request → ℕ

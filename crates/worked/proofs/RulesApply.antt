@@ -1,42 +1,50 @@
--- The requests of `rules/proofs/RuleExamples` are accepted with 4,096 bytes of room, and tables that they leave are sound.
+-- The requests of `rules/proofs/RuleExamples` and `ConcernedExamples` are accepted, each when its turn comes, and tables that they
+-- leave are sound.
 use mathlib.Core.Path.{_≡_, refl}
 use mathlib.Core.Bool.{true}
-use mathlib.Core.List.{List, [], _∷_, _++_}
+use mathlib.Core.List.{[], _∷_, _++_}
 use Rattle.record.specs.declared.request.Request.the-variants as Q
 use Rattle.rules.specs.Sound.{sound}
-use Rattle.rules.proofs.Script.{meet, join, border, open-up, after, numberAfter, all-rules}
+use Rattle.rules.proofs.Script.{meet, join, border, open-up, after, acceptedInTurn, all-rules}
 use Rattle.rules.proofs.RuleExamples.{start, branches, bushy, ring-of-five, nested}
+use Rattle.rules.proofs.ConcernedExamples.{mixture}
+use Rattle.outcome.specs.Handled.{laterVerdict}
+use Rattle.worked.proofs.InTurn.{acceptedLater, played}
 
 -- rows of the conflict table
-rows : (numberAfter (border 0 0 10 99 ∷ []) (join 0 1) start ≡ 0)
-    × (numberAfter (join 0 1 ∷ join 2 0 ∷ border 3 3 13 99 ∷ []) (join 1 3) start ≡ 0)
-    × (numberAfter (join 0 1 ∷ join 2 0 ∷ border 3 3 13 99 ∷ []) (join 3 1) start ≡ 0)
-    × (numberAfter (join 0 1 ∷ join 2 0 ∷ join 3 4 ∷ join 5 3 ∷ []) (join 1 5) start ≡ 0)
-unfolding all-rules start
-rows = (refl, refl, refl, refl)
+rows : (acceptedInTurn (border 0 0 10 99 ∷ join 0 1 ∷ []) start ≡ true)
+    × (acceptedInTurn (join 0 1 ∷ join 2 0 ∷ border 3 3 13 99 ∷ join 1 3 ∷ []) start ≡ true)
+    × (acceptedInTurn (join 0 1 ∷ join 2 0 ∷ border 3 3 13 99 ∷ join 3 1 ∷ []) start ≡ true)
+    × (acceptedInTurn (join 0 1 ∷ join 2 0 ∷ join 3 4 ∷ join 5 3 ∷ join 1 5 ∷ []) start ≡ true)
+unfolding all-rules laterVerdict acceptedLater start
+rows = (played 128 _ tt tt, played 128 _ tt tt, played 128 _ tt tt, played 128 _ tt tt)
 
-augmenting : (numberAfter (join 0 1 ∷ join 2 0 ∷ []) (border 1 1 11 99) start ≡ 0)
+augmenting : (acceptedInTurn (join 0 1 ∷ join 2 0 ∷ border 1 1 11 99 ∷ []) start ≡ true)
     × (sound (after (join 0 1 ∷ join 2 0 ∷ border 1 1 11 99 ∷ []) start) ≡ true)
-    × (numberAfter (join 0 1 ∷ join 2 3 ∷ join 4 0 ∷ join 4 2 ∷ []) (join 5 4) start ≡ 0)
-    × (numberAfter branches (join 1 5) start ≡ 0)
-unfolding all-rules start branches
-augmenting = (refl, refl, refl, refl)
+    × (acceptedInTurn (join 0 1 ∷ join 2 3 ∷ join 4 0 ∷ join 4 2 ∷ join 5 4 ∷ []) start ≡ true)
+    × (acceptedInTurn (branches ++ join 1 5 ∷ []) start ≡ true)
+unfolding all-rules laterVerdict acceptedLater start branches
+augmenting = (played 128 _ tt tt, refl, played 128 _ tt tt, played 128 _ tt tt)
 
-making : sound (after bushy start) ≡ true
-unfolding all-rules start bushy
-making = refl
+making : (acceptedInTurn bushy start ≡ true) × (sound (after bushy start) ≡ true)
+unfolding all-rules laterVerdict acceptedLater start bushy
+making = (played 128 _ tt tt, refl)
 
-opening : (numberAfter (ring-of-five 6 3) (open-up 128) start ≡ 0)
+opening : (acceptedInTurn (ring-of-five 6 3 ++ open-up 128 ∷ []) start ≡ true)
     × (sound (after (ring-of-five 6 3 ++ open-up 128 ∷ []) start) ≡ true)
-    × (numberAfter (ring-of-five 6 2) (open-up 128) start ≡ 0)
+    × (acceptedInTurn (ring-of-five 6 2 ++ open-up 128 ∷ []) start ≡ true)
     × (sound (after (ring-of-five 6 2 ++ open-up 128 ∷ []) start) ≡ true)
-    × (numberAfter (ring-of-five 3 3) (open-up 128) start ≡ 0)
+    × (acceptedInTurn (ring-of-five 3 3 ++ open-up 128 ∷ []) start ≡ true)
     × (sound (after (ring-of-five 3 3 ++ open-up 128 ∷ []) start) ≡ true)
-unfolding all-rules start ring-of-five
-opening = (refl, refl, refl, refl, refl, refl)
+unfolding all-rules laterVerdict acceptedLater start ring-of-five
+opening = (played 128 _ tt tt, refl, played 128 _ tt tt, refl, played 128 _ tt tt, refl)
 
-listing : (numberAfter (nested ++ border 129 0 40 99 ∷ []) Q.List start ≡ 0)
-    × (numberAfter (nested ++ border 129 4 40 99 ∷ []) Q.List start ≡ 0)
-    × (numberAfter (nested ++ join 20 21 ∷ join 22 20 ∷ join 22 21 ∷ meet 130 129 20 3 50 51 ∷ []) Q.List start ≡ 0)
-unfolding all-rules start nested
-listing = (refl, refl, refl)
+listing : (acceptedInTurn (nested ++ border 129 0 40 99 ∷ Q.List ∷ []) start ≡ true)
+    × (acceptedInTurn (nested ++ border 129 4 40 99 ∷ Q.List ∷ []) start ≡ true)
+    × (acceptedInTurn (nested ++ join 20 21 ∷ join 22 20 ∷ join 22 21 ∷ meet 130 129 20 3 50 51 ∷ Q.List ∷ []) start ≡ true)
+unfolding all-rules laterVerdict acceptedLater start nested
+listing = (played 128 _ tt tt, played 128 _ tt tt, played 128 _ tt tt)
+
+concerned : acceptedInTurn mixture start ≡ true
+unfolding all-rules laterVerdict acceptedLater start mixture
+concerned = played 128 _ tt tt

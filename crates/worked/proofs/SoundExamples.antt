@@ -1,17 +1,22 @@
 -- Tables that are wrong in one place, with the rule that fails first and the lowest slot at which it fails.
 use mathlib.Core.Path.{_≡_, refl}
-use mathlib.Core.List.{[], _∷_}
+use mathlib.Core.Bool.{true}
+use mathlib.Core.List.{List, [], _∷_}
 use Prim.Native.Nat.{ℕ}
 use Rattle.slot.specs.declared.state.State.the-variants as S
 use Rattle.slot.specs.Number.{none}
 use Rattle.slot.specs.Slot.{Slot, newNode}
-use Rattle.table.specs.Table.{Table, put}
+use Rattle.table.specs.Table.{Table, at, put}
 use Rattle.counts.specs.Making.{fresh}
 use Rattle.counts.specs.Counts.{withDefects, withBlossoms}
+use Rattle.record.specs.declared.request.Request.{Request}
 use Rattle.rules.specs.Act.{alter}
-use Rattle.rules.specs.Slots.{withState, withParent, withFirstChild, withSibling}
-use Rattle.rules.specs.Sound.{noFault, faultAt, firstFault, S1, S2, S3, S4, S5, S6, S8}
-use Rattle.rules.proofs.Script.{meet, join, after, all-rules}
+use Rattle.rules.specs.Slots.{withState, withParent, withFirstChild, withSibling, shaped}
+use Rattle.rules.specs.Sound.{noFault, faultAt, firstFault, S1, S2, S3, S4, S5, S6, S7, S8}
+use Rattle.rules.proofs.Script.{meet, join, after, acceptedInTurn, all-rules}
+use Rattle.rules.proofs.RuleExamples.{nested}
+use Rattle.outcome.specs.Handled.{laterVerdict}
+use Rattle.worked.proofs.InTurn.{acceptedLater, played}
 
 withRing : ℕ → Slot → Slot
 withRing n s = record { state = s .state; parent = s .parent; firstChild = s .firstChild; sibling = s .sibling; ring = n; link = s .link }
@@ -28,14 +33,30 @@ withTouches t p s =
     }
 
 -- 0 and 1 matched; 4 a root with 2 and 0 below it, 3 and 1 below those; 0, 1, 2 in the blossom 128, a − node between 4 and 3
+to-pair : List Request
+to-pair = join 0 1 ∷ []
+
+to-tree : List Request
+to-tree = join 0 1 ∷ join 2 3 ∷ join 4 0 ∷ join 4 2 ∷ []
+
+to-minus : List Request
+to-minus = join 0 1 ∷ join 2 0 ∷ join 2 1 ∷ meet 128 3 1 3 11 13 ∷ meet 4 128 4 0 14 10 ∷ []
+
+accepted : (acceptedInTurn to-pair (fresh 128) ≡ true) × (acceptedInTurn to-tree (fresh 128) ≡ true) × (acceptedInTurn to-minus (fresh 128) ≡ true)
+unfolding all-rules laterVerdict acceptedLater to-pair to-tree to-minus
+accepted = (played 128 _ tt tt, played 128 _ tt tt, played 128 _ tt tt)
+
 pair : Table
-pair = after (join 0 1 ∷ []) (fresh 128)
+unfolding to-pair
+pair = after to-pair (fresh 128)
 
 tree : Table
-tree = after (join 0 1 ∷ join 2 3 ∷ join 4 0 ∷ join 4 2 ∷ []) (fresh 128)
+unfolding to-tree
+tree = after to-tree (fresh 128)
 
 minus : Table
-minus = after (join 0 1 ∷ join 2 0 ∷ join 2 1 ∷ meet 128 3 1 3 11 13 ∷ meet 4 128 4 0 14 10 ∷ []) (fresh 128)
+unfolding to-minus
+minus = after to-minus (fresh 128)
 
 all-sound : (firstFault (fresh 1) ≡ noFault) × (firstFault (fresh 256) ≡ noFault) × (firstFault pair ≡ noFault) × (firstFault tree ≡ noFault) × (firstFault minus ≡ noFault)
 unfolding all-rules pair tree minus
@@ -74,6 +95,33 @@ child-lists = (refl, refl)
 rings : (firstFault (alter 0 (withSibling 2) minus) ≡ faultAt S6 128) × (firstFault (alter 1 (withSibling none) minus) ≡ faultAt S6 128) × (firstFault (alter 1 (withFirstChild 0) minus) ≡ faultAt S6 1)
 unfolding all-rules minus
 rings = (refl, refl, refl)
+
+-- S7 of outer nodes: a + node and a − node, each the parent and the only child of the other
+circle : Table
+circle = alter 0 (λ s. shaped S.Grow 1 1 none (s .link) s) (alter 1 (λ s. shaped S.Shrink 0 0 none (s .link) s) pair)
+
+ways-up : firstFault circle ≡ faultAt S7 0
+unfolding all-rules pair circle
+ways-up = refl
+
+-- S7 of inner nodes: 1 inside the defect 0, and inside nothing
+inside-of : ℕ → Table
+inside-of n = alter 1 (λ s. shaped S.Inner n none none (s .link) s) (put pair 0 newNode)
+
+-- .. and a blossom inside one of a smaller number: the table of `nested` with 128 and 129 in one another's place, so that 129 is a
+-- ring of 2, 0, 1 and 128 one of 129, 3, 4
+swapped : Table → Table
+swapped t =
+    alter 0 (withParent 129)
+    (alter 1 (withParent 129)
+    (alter 2 (withParent 129)
+    (alter 3 (withParent 128)
+    (alter 4 (λ s. withParent 128 (withSibling 129 s))
+    (put (put t 128 (withRing 129 (at t 129))) 129 (withParent 128 (at t 128)))))))
+
+inner-parents : (firstFault (inside-of 0) ≡ faultAt S7 1) × (firstFault (inside-of none) ≡ faultAt S7 1) × (firstFault (swapped (after nested (fresh 128))) ≡ faultAt S7 129)
+unfolding all-rules pair inside-of withRing swapped nested
+inner-parents = (refl, refl, refl)
 
 -- S8: a touch outside its node, a peer touch outside the parent
 touches : (firstFault (alter 128 (withTouches 3 4) minus) ≡ faultAt S8 128) × (firstFault (alter 128 (withTouches 0 3) minus) ≡ faultAt S8 128)

@@ -11,4 +11,4 @@ augment-subtree-spec =
     (λ c κs. search needs)
     (λ c κs. search needs)
     (λ c. search needs)
-    (λ c. augment-subtree-step _ _ _ _ _ _ (c .before .before .before .before .before .before .before .first-child .ensures) (c .before .before .before .before .before .cut-children .ensures) (c .before .before .match-siblings .ensures)))
+    (λ c. augment-subtree-step _ _ _ _ _ _ _ (c .before .before .before .before .before .before .before .first-child .ensures) (c .before .before .before .before .before .cut-children .ensures) (c .before .before .match-siblings .ensures)))
