@@ -50,9 +50,10 @@ help_asked() {
 explain_environment() {
     cat <<'END'
 Set by the environment:
-  CC        the C compiler (gcc; on a machine that is no x86-64: x86_64-linux-gnu-gcc)
-  CFLAGS    more words for it
-  RUN       what runs an x86-64 program (nothing; on a machine that is no x86-64: the toolchain's emulator, or else qemu-x86_64)
+  CC         the C compiler (gcc; on a machine that is no x86-64, x86_64-linux-gnu-gcc)
+  CFLAGS     more words for it
+  RUN        what runs an x86-64 program (nothing; on a machine that is no x86-64, the
+             toolchain's emulator, or else qemu-x86_64)
 END
 }
 
@@ -60,7 +61,13 @@ END
 from_here() { case $1 in /*) printf '%s\n' "$1" ;; *) printf '%s\n' "$PWD/$1" ;; esac; }
 
 # A folder to write to.
-want_folder() { { mkdir -p -- "$1" && [ -w "$1" ]; } 2>/dev/null || lack "the folder $1 cannot be made or written to: $2"; }
+want_folder() {
+    if { mkdir -p -- "$1" && : >"$1/written.$$"; } 2>/dev/null; then
+        rm -f "$1/written.$$"
+    else
+        lack "the folder $1 cannot be made or written to: $2"
+    fi
+}
 
 # ---- the compiler of x86-64 programs, and what runs them
 
@@ -92,23 +99,28 @@ want_compiler() {
     if ! $cc $link ${CFLAGS:-} "$small.c" -o "$small" >"$small.said" 2>&1; then
         lack "$cc${link:+ $link} does not compile a small program: install the Debian package $library_package. It says:"
         quote "$small.said"
-    elif [ "$($run "$small" 2>"$small.said")" != 'it runs' ]; then
+    elif [ -n "$runs" ] && [ "$($run "$small" 2>"$small.said")" != 'it runs' ]; then
         lack "what $cc builds does not run here${run:+ by $run}: name what runs x86-64 programs by RUN, as qemu-x86_64 of the Debian package qemu-user"
         quote "$small.said"
     fi
 }
 
-# Sets `run`. Where the machine is no x86-64, programs are linked statically, and the emulator runs them without the loader that
-# tools/prove names beside it.
+# Sets `run`, and `runs` if it is known. Where the machine is no x86-64, programs are linked statically, and the emulator runs them without
+# the loader that tools/prove names beside it: the loader would start such a program as one of this machine's own.
 want_runner() {
-    run=${RUN:-}
+    run=${RUN:-} runs=yes
     if [ -n "$run" ]; then
-        command -v "${run%% *}" >/dev/null 2>&1 || lack "there is no program ${run%% *}, which RUN names to run x86-64 programs"
+        command -v "${run%% *}" >/dev/null 2>&1 || {
+            lack "there is no program ${run%% *}, which RUN names to run x86-64 programs: name another, or leave RUN away"
+            runs=''
+        }
     elif [ "$machine" != x86_64 ]; then
         run=$(tools/prove --runner 2>/dev/null) || run=''
         run=${run%% *}
-        [ -n "$run" ] || run=$(command -v qemu-x86_64) ||
+        [ -n "$run" ] || run=$(command -v qemu-x86_64) || {
             lack "nothing runs x86-64 programs on this machine ($machine): install the Debian package qemu-user, or name an emulator by RUN"
+            runs=''
+        }
     fi
 }
 
@@ -129,12 +141,12 @@ want_library() {
     [ -f target/staticlib/libprimal_c.a ] || missing "$*: tools/prove --staticlib primal_c made no target/staticlib/libprimal_c.a"
 }
 
-# Builds a C program with the library: build TO SOURCES..
+# Builds a C program with the library: build PROGRAM SOURCES..
 build() {
-    to=$1
+    program=$1
     shift
     # shellcheck disable=SC2086
-    $cc -std=c11 -Wall -Wextra -O2 ${CFLAGS:-} "$@" target/staticlib/libprimal_c.a $link -o "$to.$$" && mv -f "$to.$$" "$to"
+    $cc -std=c11 -Wall -Wextra -O2 ${CFLAGS:-} "$@" target/staticlib/libprimal_c.a $link -o "$program.$$" && mv -f "$program.$$" "$program"
 }
 
 # The sources that the tools share, and one of their own.

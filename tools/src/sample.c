@@ -11,6 +11,7 @@
 #include "judge.h"
 #include "original.h"
 #include "port.h"
+#include "progress.h"
 #include "shots.h"
 #include "view.h"
 
@@ -42,7 +43,9 @@ static void save(const char *folder, const char *name, const char *ending, const
     snprintf(path, sizeof path, "%s/%s.%s", folder, name, ending);
     FILE *file = fopen(path, "wb");
     if (!file || fwrite(bytes->bytes, 1, bytes->length, file) != bytes->length || fclose(file)) {
-        fprintf(stderr, "%s cannot be written: %s\n", path, strerror(errno));
+        int why = errno;
+        end_progress();
+        fprintf(stderr, "%s cannot be written: %s\n", path, strerror(why));
         exit(2);
     }
 }
@@ -62,10 +65,12 @@ int main(int argc, char **argv) {
         for (char *c = name; *c; c++) *c = *c == ' ' ? '-' : *c;
         snprintf(begin, sizeof begin, "%u", shot.begin);
         int status = run_program(argv[1], begin, &tape, &answers);
-        if (status) return fprintf(stderr, "the original, %s, stops within the tape %s, after %zu bytes of answers: status %d\n", argv[1], name, answers.length, status), 1;
+        if (status) return end_progress(), fprintf(stderr, "the original, %s, stops within the tape %s, after %zu bytes of answers: status %d\n", argv[1], name, answers.length, status), 1;
         save(argv[2], name, "tape", &tape);
         save(argv[2], name, "tape.answers", &answers);
         printf("%s.tape: |%03u %s.tape.answers|\n", name, shot.begin, name);
+        progress(i + 1, TAPES, "tapes written");
     }
+    end_progress();
     return 0;
 }
