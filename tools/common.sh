@@ -97,7 +97,7 @@ want_compiler() {
     printf '%s\n' '#include <stdio.h>' 'int main(void) { return puts("it runs") < 0; }' >"$small.c"
     # shellcheck disable=SC2086
     if ! $cc $link ${CFLAGS:-} "$small.c" -o "$small" >"$small.said" 2>&1; then
-        lack "$cc${link:+ $link} does not compile a small program: install the Debian package $library_package. It says:"
+        lack "$cc${link:+ $link} does not compile a small program: install the Debian package $library_package, or mend CC and CFLAGS. It says:"
         quote "$small.said"
     elif [ -n "$runs" ] && [ "$($run "$small" 2>"$small.said")" != 'it runs' ]; then
         lack "what $cc builds does not run here${run:+ by $run}: name what runs x86-64 programs by RUN, as qemu-x86_64 of the Debian package qemu-user"
@@ -105,8 +105,8 @@ want_compiler() {
     fi
 }
 
-# Sets `run`, and `runs` if it is known. Where the machine is no x86-64, programs are linked statically, and the emulator runs them without
-# the loader that tools/prove names beside it: the loader would start such a program as one of this machine's own.
+# Sets `run`, and `runs` if it is known. Where the machine is no x86-64, programs are linked statically, and the emulator, the first word
+# that tools/prove --runner prints, runs them without a loader, which would start them as programs of this machine's own.
 want_runner() {
     run=${RUN:-} runs=yes
     if [ -n "$run" ]; then
@@ -136,7 +136,7 @@ about_rust_target="rustup target add $rust_target, or, for Debian's rustc, dpkg 
 
 # Proves and builds it, if that is not done yet. The words say what is not done if it cannot be had.
 want_library() {
-    [ -x tools/prove ] || missing "tools/prove is missing, which proves and builds the library: restore it, as by git checkout tools/prove"
+    [ -x tools/prove ] || missing "$*: there is no program tools/prove, which proves and builds the library; restore it, as by git checkout tools/prove"
     tools/prove --staticlib primal_c || missing "$*: tools/prove --staticlib primal_c ended with status $?"
     [ -f target/staticlib/libprimal_c.a ] || missing "$*: tools/prove --staticlib primal_c made no target/staticlib/libprimal_c.a"
 }
@@ -203,14 +203,14 @@ try_original() {
     esac
 }
 
-# ask WORD INPUT: sets `status`, and `answer`, its first bytes in hex.
+# ask WORD INPUT: sets `status`, and `answer`, its first bytes in hex. The rest is read as well, but not without end.
 ask() {
     word=$1 limit=''
     ! command -v timeout >/dev/null 2>&1 || limit='timeout 10'
     answer=$(
         {
             $limit "$original" "$word" <"$scratch/$2" 2>"$scratch/said" && echo 0 >"$scratch/status" || echo $? >"$scratch/status"
-        } | od -An -v -tx1 -N 40 | tr -d ' \n'
+        } | { od -An -v -tx1 -N 40 && dd bs=4096 count=1000 of=/dev/null 2>/dev/null; } | tr -d ' \n'
     )
     status=$(cat "$scratch/status")
 }
