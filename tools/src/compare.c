@@ -1,7 +1,7 @@
 /* Compares the port with the original, request by request, and its refusals with a second reading of document 01.
      compare ORIGINAL [SEED [REQUESTS]]
    ORIGINAL is the original's program (docs/DIFFERENCES.md). Requests are made up from SEED (1), until REQUESTS (250000) were
-   accepted. Exit status 1 if anything differs. */
+   accepted. Exit status: 0 nothing differs, 1 something differs, 2 a wrong call, or ORIGINAL does not run. */
 #include <stdio.h>
 #include <stdlib.h>
 #include <string.h>
@@ -9,6 +9,7 @@
 #include "judge.h"
 #include "original.h"
 #include "port.h"
+#include "progress.h"
 #include "shots.h"
 #include "view.h"
 
@@ -40,12 +41,14 @@ static void show(const char *name, const uint8_t *bytes, size_t length) {
     printf("\n");
 }
 
-static void difference(const char *what, uint32_t shot, uint32_t step, const Request *r) {
+/* All are counted, and the first twenty are shown; says whether this one is. */
+static int difference(const char *what, uint32_t shot, uint32_t step, const Request *r) {
     uint8_t record[LONGEST_REQUEST];
-    counts.differences++;
-    if (counts.differences > 20) return;
+    if (++counts.differences > 20) return 0;
+    end_progress();
     printf("DIFFERENCE: %s (shot %u, step %u)\n", what, shot, step);
     if (r) show("request", record, write_request(record, r));
+    return 1;
 }
 
 /* ---- the original on tables */
@@ -60,34 +63,37 @@ static Pending pending[BATCH];
 static int pending_count;
 static Bytes frames, expected;
 
+static uint32_t four_bytes(const uint8_t *from) { return from[0] | from[1] << 8 | from[2] << 16 | (uint32_t)from[3] << 24; }
+
 static void flush_frames(const char *original) {
     static Bytes answers;
     answers.length = 0;
-    int status = run_program(original, "--tables", &frames, &answers);
+    int status = run_program(original, "--tables", &frames, &answers), i = 0;
     size_t at = 0;
-    for (int i = 0; i < pending_count; i++) {
+    for (; i < pending_count; i++) {
         Pending *p = &pending[i];
         size_t end = i + 1 < pending_count ? pending[i + 1].expected : expected.length, size = end - p->expected;
-        if (at + 5 > answers.length) {
-            difference("the original gave no answer", p->shot, p->step, &p->request);
-            break;
+        if (answers.length - at < 5) break;
+        int panics = answers.bytes[at] != 0;
+        size_t said = four_bytes(answers.bytes + at + 1), got = 5 + said + (panics ? 0 : DUMP);
+        if (answers.length - at < got) break;
+        if (panics) {
+            if (difference("the original panics on a request that 01 accepts", p->shot, p->step, &p->request))
+                printf("  %.*s\n", (int)said, (const char *)answers.bytes + at + 5);
+        } else {
+            if (got != size || memcmp(answers.bytes + at, expected.bytes + p->expected, size)) {
+                int table = got == size && !memcmp(answers.bytes + at, expected.bytes + p->expected, 5 + said);
+                if (difference(table ? "table" : "commands", p->shot, p->step, &p->request)) show("original", answers.bytes + at + 5, said);
+            }
+            counts.tables++;
         }
-        uint32_t said = answers.bytes[at + 1] | answers.bytes[at + 2] << 8 | answers.bytes[at + 3] << 16 | (uint32_t)answers.bytes[at + 4] << 24;
-        if (answers.bytes[at]) {
-            difference("the original panics on a request that 01 accepts", p->shot, p->step, &p->request);
-            printf("  %.*s\n", (int)said, (const char *)answers.bytes + at + 5);
-            at += 5 + said;
-            continue;
-        }
-        size_t got = 5 + said + DUMP;
-        if (got != size || memcmp(answers.bytes + at, expected.bytes + p->expected, size)) {
-            difference(said + 5 + DUMP == size && !memcmp(answers.bytes + at, expected.bytes + p->expected, 5 + said) ? "table" : "commands", p->shot, p->step, &p->request);
-            show("original", answers.bytes + at + 5, said);
-        }
-        counts.tables++;
         at += got;
     }
-    if (status != 0 || at != answers.length) difference("the original ended otherwise than it should", 0, 0, NULL);
+    if (i < pending_count) {
+        if (difference("the original stops before it has answered", pending[i].shot, pending[i].step, &pending[i].request)) printf("  status %d\n", status);
+    } else if (status || at != answers.length) {
+        if (difference("the original ended otherwise than it should", 0, 0, NULL)) printf("  status %d, bytes too many: %zu\n", status, answers.length - at);
+    }
     pending_count = 0, frames.length = 0, expected.length = 0;
 }
 
@@ -141,7 +147,7 @@ static int try_request(const char *original, uint16_t *words, const Request *r, 
     int number = refusal_of(&before, r, room);
     *written = 77777;
     int given = call_port(words, r, out, room, written);
-    if (given != number) difference("number", shot_number, step_number, r), printf("  the port gives %d, the second reading %d\n", given, number);
+    if (given != number && difference("number", shot_number, step_number, r)) printf("  the port gives %d, the second reading %d\n", given, number);
     if (given) {
         counts.refused[given < 14 ? given : 0]++;
         if (*written != 0 || memcmp(kept, words, sizeof kept) || !all_are(out, 0, ROOM, FILL)) difference("a refusal changed something", shot_number, step_number, r);
@@ -320,10 +326,17 @@ static void report(uint64_t seed) {
 
 int main(int argc, char **argv) {
     if (argc < 2) return fprintf(stderr, "compare ORIGINAL [SEED [REQUESTS]]\n"), 2;
-    uint64_t seed = argc > 2 ? strtoull(argv[2], NULL, 0) : 1;
-    unsigned long requests = argc > 3 ? strtoul(argv[3], NULL, 0) : 250000;
-    for (; all_accepted() < requests; shot_number++) play(argv[1], seed);
+    uint64_t seed = argc > 2 ? strtoull(argv[2], NULL, 10) : 1;
+    unsigned long requests = argc > 3 ? strtoul(argv[3], NULL, 10) : 250000;
+    /* 256 shots with no accepted request: there will be none */
+    for (unsigned long before = 0, idle = 0; all_accepted() < requests && idle < 256; shot_number++) {
+        play(argv[1], seed);
+        progress(all_accepted(), requests, "requests compared");
+        idle = all_accepted() > before ? 0 : idle + 1, before = all_accepted();
+    }
+    if (all_accepted() < requests) difference("the port accepts nothing any more", shot_number, 0, NULL);
     flush_frames(argv[1]);
+    end_progress();
     report(seed);
     return counts.differences != 0;
 }

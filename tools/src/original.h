@@ -12,7 +12,8 @@ typedef struct {
 
 void append(Bytes *to, const void *from, size_t length);
 
-/* runs PROGRAM WORD with this input and appends what it writes; its exit status */
+/* Runs PROGRAM WORD with this input and appends what it writes; gives its exit status, or 128 and the signal that ended it. A program
+   that cannot be started, or that answers nothing at all to some input, is no original: the tool then says so and ends with status 2. */
 int run_program(const char *program, const char *word, const Bytes *input, Bytes *output);
 
 #endif

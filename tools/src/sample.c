@@ -1,7 +1,9 @@
 /* Writes tapes and the original's answers to them, for the crate `tapes_run`.
      sample ORIGINAL DIR
    Each tape holds requests that 01 accepts, of one plan and one begin, with resets between shots. DIR gets NAME.tape and
-   NAME.tape.answers; the cases for the crate's `stdin` go to standard output. */
+   NAME.tape.answers; the cases for the crate's `stdin` go to standard output. Exit status: 0 all written, 1 the original stops within
+   a tape, 2 a wrong call, ORIGINAL does not run, or DIR cannot be written to. */
+#include <errno.h>
 #include <stdio.h>
 #include <stdlib.h>
 #include <string.h>
@@ -9,6 +11,7 @@
 #include "judge.h"
 #include "original.h"
 #include "port.h"
+#include "progress.h"
 #include "shots.h"
 #include "view.h"
 
@@ -40,7 +43,9 @@ static void save(const char *folder, const char *name, const char *ending, const
     snprintf(path, sizeof path, "%s/%s.%s", folder, name, ending);
     FILE *file = fopen(path, "wb");
     if (!file || fwrite(bytes->bytes, 1, bytes->length, file) != bytes->length || fclose(file)) {
-        perror(path);
+        int why = errno;
+        end_progress();
+        fprintf(stderr, "%s cannot be written: %s\n", path, strerror(why));
         exit(2);
     }
 }
@@ -59,10 +64,13 @@ int main(int argc, char **argv) {
         snprintf(name, sizeof name, "%s-%d", plan_names[shot.plan], i / PLANS + 1);
         for (char *c = name; *c; c++) *c = *c == ' ' ? '-' : *c;
         snprintf(begin, sizeof begin, "%u", shot.begin);
-        if (run_program(argv[1], begin, &tape, &answers)) return fprintf(stderr, "the original refuses %s\n", name), 1;
+        int status = run_program(argv[1], begin, &tape, &answers);
+        if (status) return end_progress(), fprintf(stderr, "the original, %s, stops within the tape %s, after %zu bytes of answers: status %d\n", argv[1], name, answers.length, status), 1;
         save(argv[2], name, "tape", &tape);
         save(argv[2], name, "tape.answers", &answers);
         printf("%s.tape: |%03u %s.tape.answers|\n", name, shot.begin, name);
+        progress(i + 1, TAPES, "tapes written");
     }
+    end_progress();
     return 0;
 }
