@@ -3,3 +3,4 @@ pub mod Script
 pub mod RuleExamples
 pub mod ConcernedExamples
 pub mod RunCounts
+pub mod DefectCounts
