@@ -2,5 +2,6 @@ pub mod Runs
 pub mod Script
 pub mod RuleExamples
 pub mod ConcernedExamples
+pub mod RunInduction
 pub mod RunCounts
 pub mod DefectCounts
