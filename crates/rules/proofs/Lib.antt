@@ -4,4 +4,5 @@ pub mod RuleExamples
 pub mod ConcernedExamples
 pub mod RunInduction
 pub mod RunCounts
+pub mod TapeRequests
 pub mod DefectCounts
