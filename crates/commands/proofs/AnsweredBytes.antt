@@ -1,17 +1,14 @@
 -- What any request says, a listing and a reset among them, fits: into the room that is left where it is accepted, and in a run
 -- together with its end record.
 use mathlib.Core.Path.{_≡_, refl}
-use mathlib.Core.Bool.{Bool, true, false, _&&_}
 use mathlib.Core.List.{List, [], _∷_, _++_}
-use Prim.Native.Nat.{ℕ, zero, suc, _+_, _*_, _≤_}
+use Prim.Native.Nat.{ℕ, _+_, _*_, _≤_}
 use native.Mathlib.Omega.{arith}
 use lib.Dec.{T}
 use lib.ListN.{length, length-append}
 use borrow.Author.Tests.{ltb-false}
-use Rattle.lists.specs.Choice.{pick}
 use Rattle.table.specs.Table.{Table}
 use Rattle.table.proofs.Laws.{Full}
-use Rattle.nodes.specs.Nodes.{isDefect, present}
 use Rattle.refusal.specs.declared.Verdict.{Verdict}
 use Rattle.refusal.specs.declared.Verdict.the-variants as W
 use Rattle.record.specs.declared.request.Request.{Request}
@@ -23,28 +20,14 @@ use Rattle.record.specs.Writing.{bytesOf}
 use Rattle.rules.specs.Act.{World, skip, change}
 use Rattle.rules.specs.Sound.{sound}
 use Rattle.rules.specs.Listing.{listing}
-use Rattle.rules.specs.Refusals.{defectAt, defectsBelow, presentDefects, listChecks}
+use Rattle.rules.specs.Refusals.{presentDefects, listChecks}
 use Rattle.rules.specs.Calls.{list, actBy, verdict, answered}
 use Rattle.rules.specs.Run.{room}
 use Rattle.rules.specs.Commands.{givesCommands}
+use Rattle.rules.proofs.DefectCounts.{defects-most}
 use Rattle.kept.proofs.AcceptedRequests.{all-passed, not-no}
 use Rattle.listed.proofs.EachEventOnce.{listing-fits}
 use Rattle.commands.proofs.AnsweredCommands.{answered-size, answered-fits}
-
--- ---- at most 256 defects
-
-one-most : (b : Bool) → pick {A = ℕ} b 1 0 ≤ 1
-one-most true = omega arith
-one-most false = omega arith
-
-defect-most : (t : Table) (n : ℕ) → defectAt t n ≤ 1
-unfolding defectAt
-defect-most t n = one-most (isDefect t n && present t n)
-
-pub defects-most : (n : ℕ) (t : Table) → defectsBelow n t ≤ n
-unfolding defectsBelow
-defects-most zero t = omega arith
-defects-most (suc n) t = omega (arith, defects-most n t, defect-most t n)
 
 -- ---- so many bytes
 

@@ -5,7 +5,7 @@ use mathlib.Core.Bool.{Bool, true, false, not}
 use mathlib.Core.List.{List, [], _∷_}
 use Prim.Native.Nat.{ℕ, _*_, _≤_}
 use native.Mathlib.Omega.{arith}
-use lib.Dec.{T, ltb}
+use lib.Dec.{T, T-not, ltb}
 use borrow.Author.Tests.{le-ltb}
 use Rattle.lists.specs.Choice.{pick}
 use Rattle.table.specs.Table.{Table}
@@ -18,7 +18,7 @@ use Rattle.record.specs.declared.request.Request.the-variants as Q
 use Rattle.rules.specs.Sound.{sound}
 use Rattle.rules.specs.Refusals.{Check, firstOf, presentDefects, conflictNodeChecks, virtualNodeChecks, expansionNodeChecks}
 use Rattle.rules.specs.Calls.{verdict}
-use Rattle.commands.proofs.AnsweredBytes.{defects-most}
+use Rattle.rules.proofs.DefectCounts.{defects-most}
 
 module _ (t : Table) (space : ℕ) (h : 4102 ≤ space) where
   command-room : ltb space 4096 ≡ false
@@ -84,11 +84,7 @@ has-room Q.Reset t space h = other-check (not (sound t)) NotSound W.Accepted tt 
 has-room Q.List t space h = rw (listing-room t space h) (other-check (not (sound t)) NotSound W.Accepted tt tt)
 
 not-for-room : (v : Verdict) (n : Refusal) → T (ofRoom n) → HasRoom v → v ≢ W.Refused n
-not-for-room v n h k e = both (ofRoom n) h (rw e at k)
-  where
-    both : (b : Bool) → T b → ¬ T (not b)
-    both true p q = q
-    both false p q = p
+not-for-room v n h k e = T-not (ofRoom n) (rw e at k) h
 
 pub room-enough : (r : Request) (t : Table) (space : ℕ) → 4102 ≤ space → (verdict r t space ≢ W.Refused NoCommandRoom) × (verdict r t space ≢ W.Refused NoListingRoom)
 room-enough r t space h =

@@ -14,6 +14,7 @@ use Rattle.table.specs.Table.{Table, at}
 use Rattle.table.proofs.Laws.{Full}
 use Rattle.nodes.specs.Nodes.{outer}
 use Rattle.rules.specs.Slots.{isSome, up}
+use Rattle.rules.proofs.DefectCounts.{bit-most}
 use Rattle.sound_facts.specs.Chain.{Chain, Steps}
 use Rattle.sound_facts.specs.FactsOfNodes.{OuterChild}
 use Rattle.sound_facts.specs.Facts.{Core}
@@ -84,10 +85,6 @@ module _ (t u : Table) (full : Full u) (pruned : Pruned t u) (was : (j : ℕ) �
 unfoldable howMany : (ℕ → Bool) → ℕ → ℕ
 howMany test zero = 0
 howMany test (suc n) = pick (test n) 1 0 + howMany test n
-
-bit-most : (a : Bool) → pick {A = ℕ} a 1 0 ≤ 1
-bit-most true = omega arith
-bit-most false = omega arith
 
 bit-fewer : (a b : Bool) → (T a → T b) → pick {A = ℕ} a 1 0 ≤ pick b 1 0
 bit-fewer true true h = omega arith

@@ -1,14 +1,13 @@
 -- The present defects, counted slot by slot.
 use mathlib.Core.Path.{_≡_}
-use mathlib.Core.Bool.{Bool, true, false, _&&_}
+use mathlib.Core.Bool.{true, false}
 use Prim.Native.Nat.{ℕ, _+_, _≤_}
-use native.Mathlib.Omega.{arith}
 use native.Mathlib.Numerals.{add-one}
 use borrow.Author.Tests.{leb-true, leb-false, lt-ltb, le-ltb}
-use Rattle.lists.specs.Choice.{pick}
 use Rattle.table.specs.Table.{Table}
-use Rattle.nodes.specs.Nodes.{isBlossom, isDefect, present}
+use Rattle.nodes.specs.Nodes.{isBlossom, present}
 use Rattle.rules.specs.Refusals.{defectAt, defectsBelow}
+use Rattle.rules.proofs.DefectCounts.{defect-most}
 
 module _ (t : Table) (n : ℕ) where
   pub blossom-is-none : isBlossom t n ≡ true → 0 ≡ defectAt t n
@@ -33,9 +32,4 @@ module _ (t : Table) (n : ℕ) where
 
   -- so the count never passes its type
   pub at-most-one : (m : ℕ) → m ≡ defectAt t n → m ≤ 1
-  unfolding defectAt
-  at-most-one m q = rw q (bound (isDefect t n && present t n))
-    where
-      bound : (b : Bool) → pick {A = ℕ} b 1 0 ≤ 1
-      bound true = omega arith
-      bound false = omega arith
+  at-most-one m q = rw q (defect-most t n)

@@ -1,8 +1,7 @@
 -- A listing, with the room for it and without.
-use mathlib.Core.Path.{_≡_, refl}
+use mathlib.Core.Path.{_≡_}
 use mathlib.Core.List.{List}
-use Prim.Native.Nat.{ℕ, zero, suc, _*_, _≤_, _<_}
-use native.Mathlib.Omega.{arith}
+use Prim.Native.Nat.{ℕ, _*_, _≤_, _<_}
 use borrow.Author.Tests.{lt-ltb, le-ltb}
 use Rattle.table.specs.Table.{Table}
 use Rattle.table.specs.Words.{tableOf}
@@ -12,9 +11,9 @@ use Rattle.record.specs.declared.request.Request.the-variants as Q
 use Rattle.record.specs.Writing.{outOf, writeAll}
 use Rattle.rules.specs.Act.{worldOf, run}
 use Rattle.rules.specs.Listing.{listing}
-use Rattle.rules.specs.Refusals.{presentDefects, defectAt, defectsBelow}
+use Rattle.rules.specs.Refusals.{presentDefects, defectsBelow}
 use Rattle.rules.specs.Calls.{list}
-use Rattle.listing.proofs.Defects.{at-most-one}
+use Rattle.rules.proofs.DefectCounts.{defects-most}
 use Rattle.outcome.specs.Handled.{laterVerdict}
 
 module _ (t : Table) (room : ℕ) where
@@ -38,10 +37,5 @@ unfolding run list
 list-world words bytes bytes′ pos p e i = record { table = tableOf words; out = e i }
 
 -- no more defects than slots looked at, so the room that a listing asks for is a number of the code's
-defects-bound : (n : ℕ) (t : Table) → defectsBelow n t ≤ n
-unfolding defectsBelow
-defects-bound zero t = omega arith
-defects-bound (suc n) t = omega (arith, defects-bound n t, at-most-one t n (defectAt t n) refl)
-
 pub found-bound : (t : Table) (n found : ℕ) → found ≡ defectsBelow n t → found ≤ n
-found-bound t n found e = rw e (defects-bound n t)
+found-bound t n found e = rw e (defects-most n t)

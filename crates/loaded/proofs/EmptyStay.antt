@@ -26,7 +26,7 @@ use Rattle.sound_facts.proofs.InsideLaws.{inside-present}
 use Rattle.kept.proofs.Renewing.{Whole}
 use Rattle.kept.proofs.AcceptedRequests.{acceptable, acceptable-expansion}
 use Rattle.kept.proofs.Expanding.{top-held, bottom-held}
-use Rattle.orders.proofs.Within.{Closed, Alike, Moved}
+use Rattle.orders.proofs.Within.{Closed, Alike, Moved, alike-itself}
 use Rattle.orders.proofs.ConflictWithin.{conflict-acted, virtual-acts}
 use Rattle.orders.proofs.ExpansionWithin.{expansion-acted}
 use Rattle.loaded.specs.Loaded.{namedForLoading}
@@ -59,18 +59,18 @@ module _ (q : Request) (t : Table) (w : Whole t) where
             record { parent = pointer-in (at t n .parent) (p .parent); child = pointer-in (at t n .firstChild) (p .child); sibling = pointer-in (at t n .sibling) (p .sibling) };
       }
 
-  alike-itself : Alike (InReach q t) t t
-  alike-itself = record { full = w .full; full-too = w .full; closed = reach-closed; agree = λ n _. refl; begin = refl }
+  alike-in-reach : Alike (InReach q t) t t
+  alike-in-reach = alike-itself (InReach q t) t (w .full) reach-closed
 
 module _ (t : Table) (room : ℕ) (w : Whole t) where
   pub conflict-reaches : (c : Conflict) → verdict (Q.Conflict c) t room ≡ W.Accepted → Moved (InReach (Q.Conflict c) t) true t t (conflict c t .table) (conflict c t .table)
   conflict-reaches c ok =
       let q = Q.Conflict c in
-      conflict-acted (InReach q t) true (nothing-in q t w) t t (alike-itself q t w) w c (named (inl refl)) (named (inr (inl refl))) (acceptable t room c ok .two)
+      conflict-acted (InReach q t) true (nothing-in q t w) t t (alike-in-reach q t w) w c (named (inl refl)) (named (inr (inl refl))) (acceptable t room c ok .two)
       (λ m. (tt, blossom (omega arith), refl)) .moved
 
   pub virtual-reaches : (c : VirtualConflict) → Moved (InReach (Q.VirtualConflict c) t) true t t (virtualConflict c t .table) (virtualConflict c t .table)
-  virtual-reaches c = let q = Q.VirtualConflict c in virtual-acts (InReach q t) true (nothing-in q t w) c (named (inl refl)) t t (alike-itself q t w) .moved
+  virtual-reaches c = let q = Q.VirtualConflict c in virtual-acts (InReach q t) true (nothing-in q t w) c (named (inl refl)) t t (alike-in-reach q t w) .moved
 
   -- a defect that a ring node holds is present
   held-present : (b x n : ℕ) → InnerChild t b x × DefectInside t x n → T (present t n)
@@ -81,5 +81,5 @@ module _ (t : Table) (room : ℕ) (w : Whole t) where
       let q = Q.Expansion e in
       let b = e .node .0 in
       let k = acceptable-expansion t room e ok in
-      expansion-acted (InReach q t) true (nothing-in q t w) b t t (alike-itself q t w) (blossom (k .blossom))
+      expansion-acted (InReach q t) true (nothing-in q t w) b t t (alike-in-reach q t w) (blossom (k .blossom))
       (there (held-present b _ _ (top-held t w b (k .blossom) (k .shrinks)))) (there (held-present b _ _ (bottom-held t w b (k .blossom) (k .shrinks)))) .moved

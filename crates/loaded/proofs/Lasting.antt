@@ -1,16 +1,13 @@
 -- A slot that is present stays present under every store of a present slot, and so under all that matching and hanging store.
 use mathlib.Core.Path.{_≡_}
-use mathlib.Core.Logic.{inl, inr}
 use mathlib.Core.Bool.{Bool, true, false}
 use Prim.Native.Nat.{ℕ, zero, suc}
-use native.Mathlib.Decide.{decLt}
-use native.Mathlib.Omega.{arith}
 use lib.Dec.{T}
 use Rattle.slot.specs.State.{isPresent}
 use Rattle.slot.specs.Number.{none}
 use Rattle.slot.specs.Slot.{Link, Slot, mirror}
 use Rattle.table.specs.Table.{Table, at, put}
-use Rattle.table.proofs.Laws.{Full, at-put-same, at-put-other, put-full, put-out}
+use Rattle.table.proofs.Laws.{Full, put-full}
 use Rattle.nodes.specs.Nodes.{present}
 use Rattle.record.specs.declared.answer.Record.{Record}
 use Rattle.record.specs.declared.answer.Speed.the-variants as P
@@ -18,7 +15,7 @@ use Rattle.rules.specs.Act.{Act, skip, say, change, _then_, look, read, choose,
 use Rattle.rules.specs.Slots.{withFirstChild, isNone}
 use Rattle.rules.specs.Matching.{matchedTo, temporaryMatch, temporaryMatchVirtual, unlessNone, subtree, matchSiblings, augmentSubtree, augmentWithin, augmentWholeTree}
 use Rattle.rules.specs.Conflict.{leafBelow, rootAbove, minusBelow, growTree, hangPair}
-use Rattle.sound_facts.proofs.Reflect.{same-or-not}
+use Rattle.orders.proofs.Within.{slot-after}
 
 -- a table of 256 slots, with slot j present
 pub record Has (j : ℕ) (t : Table) : Type 0 where
@@ -39,16 +36,9 @@ module _ (j : ℕ) where
 
   -- ---- stores
 
-  slot-after : (t : Table) (n : ℕ) (s : Slot) → Has j t → (j ≡ n → T (isPresent (s .state))) → T (present (put t n s) j)
-  slot-after t n s h p =
-      elim (same-or-not j n) [
-        | inr d ↦ rw (at-put-other t n j s d) (h .there)
-        | inl e ↦ elim (decLt n 256) [ yes l ↦ rw (e, at-put-same t n s (h .full) l) (p e) | no g ↦ rw (put-out t n s (h .full) (omega arith)) (h .there) ]
-      ]
-
   -- one of a present slot, and any elsewhere
   pub put-lasts : (n : ℕ) (s : Slot) → (j ≡ n → T (isPresent (s .state))) → Lasts (λ t. put t n s)
-  put-lasts n s p t h = record { full = put-full t n s (h .full); there = slot-after t n s h p }
+  put-lasts n s p t h = record { full = put-full t n s (h .full); there = slot-after (λ r. T (isPresent (r .state))) t n j s (h .full) p (h .there) }
 
   pub alter-lasts : (n : ℕ) (f : Slot → Slot) → StaysPresent f → Lasts (alter n f)
   unfolding alter

@@ -17,14 +17,16 @@ use Rattle.rules.specs.Act.{World, worldOf}
 use Rattle.rules.specs.Sound.{sound}
 use Rattle.rules.specs.Listing.{listing}
 use Rattle.rules.specs.Calls.{answered}
-use Rattle.rules.specs.Run.{Progress, room, served, runFrom, Between}
+use Rattle.rules.specs.Run.{Progress, room, served, runFrom, Between, requestsOf}
+use Rattle.rules.proofs.RunCounts.{records-between}
+use Rattle.rules.proofs.TapeRequests.{as-many}
 use Rattle.listed.specs.Named.{namedIn, times, isPresentDefect, AllMatched}
 use Rattle.outcome.specs.Tape.{Tape}
 use Rattle.kept.proofs.Wholes.{to-whole}
-use Rattle.loaded.specs.Loaded.{Events, noEvents, loadedAfter, servedAll, loadedBy, requestsOf}
+use Rattle.loaded.specs.Loaded.{Events, noEvents, loadedAfter, servedAll, loadedBy}
 use Rattle.loaded.proofs.Presence.{answered-present, served-present, reset-none}
-use Rattle.loaded.proofs.ServedRecords.{all-present, run-present}
-use Rattle.loaded.proofs.TapeListed.{as-many, tape-between, tape-present, tape-once}
+use Rattle.loaded.proofs.ServedRecords.{all-present, run-serves, run-present}
+use Rattle.loaded.proofs.TapeListed.{tape-between, tape-present, tape-once}
 
 -- ---- one request
 
@@ -61,7 +63,7 @@ pub present-after-run :
     Between k (p .rest) (e .rest)
     × (e .world ≡ servedAll (requestsOf k (p .rest)) (p .world))
     × ((n : ℕ) → isPresentDefect (e .world .table) n ≡ loadedBy (requestsOf k (p .rest)) (p .world) (isPresentDefect (p .world .table)) n)
-present-after-run allowance p full s = run-present allowance p (to-whole (p .world .table) full s)
+present-after-run allowance p full s = (records-between allowance p, run-serves allowance p, run-present allowance p (to-whole (p .world .table) full s))
 
 -- ---- a tape, on a table as made: whatever a run leaves that keeps its promise
 

@@ -1,6 +1,6 @@
 -- Worked examples of what requests load, on a table of begin 128.
 use mathlib.Core.Path.{_≡_, refl}
-use mathlib.Core.List.{List, [], _∷_, _++_}
+use mathlib.Core.List.{List, [], _∷_}
 use Prim.Native.Nat.{ℕ}
 use lib.ListN.{replicate}
 use Rattle.lists.specs.Choice.{pick}
@@ -8,12 +8,11 @@ use Rattle.counts.specs.Making.{fresh}
 use Rattle.record.specs.declared.request.Request.{Request}
 use Rattle.record.specs.declared.request.Request.the-variants as Q
 use Rattle.record.specs.Kinds.{layoutOf}
-use Rattle.record.specs.Records.{requestBytes, answerBytes}
-use Rattle.record.specs.Reading as reading
+use Rattle.record.specs.Records.{answerBytes}
 use Rattle.record.specs.Writing.{outOf, placed, written, writeAll}
 use Rattle.rules.specs.Act.{World}
 use Rattle.rules.proofs.Script.{join, border, after, all-rules}
-use Rattle.loaded.specs.Loaded.{Events, noEvents, loads, loadedBy, requestsOf}
+use Rattle.loaded.specs.Loaded.{Events, noEvents, loads, loadedBy}
 
 -- which of some numbers a set has
 unfoldable among : List ℕ → Events → List ℕ
@@ -61,11 +60,3 @@ since-the-start = refl
 since-the-reset : loadedByAll (join 0 1 ∷ Q.Reset ∷ border 2 2 12 99 ∷ []) ≡ 2 ∷ []
 unfolding all-rules among shown loadedByAll world answerBytes layoutOf placed written writeAll
 since-the-reset = refl
-
--- the requests of a tape's first records; none behind a bad one
-tape : List ℕ
-tape = requestBytes (join 0 1) ++ requestBytes Q.Reset ++ 7 ∷ []
-
-read-from-a-tape : (requestsOf 1 tape ≡ join 0 1 ∷ []) × (requestsOf 2 tape ≡ join 0 1 ∷ Q.Reset ∷ []) × (requestsOf 3 tape ≡ join 0 1 ∷ Q.Reset ∷ [])
-unfolding tape requestsOf requestBytes layoutOf reading.read
-read-from-a-tape = (refl, refl, refl)

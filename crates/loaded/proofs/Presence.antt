@@ -1,7 +1,7 @@
 -- Which defects are present after a request: on a sound table those before and those that it loads, and after a reset none.
-use mathlib.Core.Path.{_≡_, refl, ap, _∙_}
+use mathlib.Core.Path.{_≡_, refl, ap, sym, _∙_}
 use mathlib.Core.Logic.{inl, inr}
-use mathlib.Core.Bool.{Bool, true, false, not, _&&_, _||_}
+use mathlib.Core.Bool.{Bool, true, false, not, _&&_, _||_, and-false, or-false}
 use Prim.Native.Nat.{ℕ, _<_}
 use native.Mathlib.Omega.{arith}
 use lib.Dec.{T, ltb}
@@ -32,6 +32,7 @@ use Rattle.kept.proofs.Resetting.{fresh-at}
 use Rattle.kept.proofs.AcceptedRequests.{acceptable-expansion}
 use Rattle.orders.proofs.Within.{Moved}
 use Rattle.loaded.specs.Loaded.{Events, namedForLoading, loadedAfter}
+use Rattle.loaded.proofs.Lasting.{Has}
 use Rattle.loaded.proofs.LastingBlossom.{expansion-lasts}
 use Rattle.loaded.proofs.LastingRequests.{conflict-lasts, virtual-lasts, first-has, second-has, virtual-has}
 use Rattle.loaded.proofs.EmptyStay.{InReach, out-of-reach, conflict-reaches, virtual-reaches, expansion-reaches}
@@ -76,45 +77,41 @@ empty-still q t u m n l p i h = p (rw (m .off n (out-of-reach q t n l p i)) at h
 -- ---- the requests
 
 module _ (t : Table) (room : ℕ) (w : Whole t) where
-  conflict-loads : (c : Conflict) → verdict (Q.Conflict c) t room ≡ W.Accepted → Loads (Q.Conflict c) t (conflict c t .table)
-  conflict-loads c ok =
-      let m = conflict-reaches t room w c ok in
+  -- by what the request reaches, what lasts and what is loaded
+  loads-by :
+      (q : Request) (u : Table)
+      → Moved (InReach q t) true t t u u
+      → ((n : ℕ) → n < t .begin → Has n t → Has n u)
+      → ((n : ℕ) → n < t .begin → n ∈ namedForLoading q → Has n u)
+      → Loads q t u
+  loads-by q u m lasts has =
       record {
         begin = m .begin;
-        still = λ n l p. conflict-lasts n c t (record { full = w .full; there = p }) .there;
-        new = new;
-        only = empty-still (Q.Conflict c) t (conflict c t .table) m;
+        still = λ n l p. lasts n l (record { full = w .full; there = p }) .there;
+        new = λ n l i. has n l i .there;
+        only = empty-still q t u m;
       }
+
+  conflict-loads : (c : Conflict) → verdict (Q.Conflict c) t room ≡ W.Accepted → Loads (Q.Conflict c) t (conflict c t .table)
+  conflict-loads c ok = loads-by (Q.Conflict c) (conflict c t .table) (conflict-reaches t room w c ok) (λ n l h. conflict-lasts n c t h) has
     where
-      new : (n : ℕ) → n < t .begin → n ∈ namedForLoading (Q.Conflict c) → T (present (conflict c t .table) n)
-      new n l (inl e) = rw e (first-has t w c (rw e at l) .there)
-      new n l (inr (inl e)) = rw e (second-has t w c (rw e at l) .there)
-      new n l (inr (inr z)) = absurd z
+      has : (n : ℕ) → n < t .begin → n ∈ namedForLoading (Q.Conflict c) → Has n (conflict c t .table)
+      has n l (inl e) = rw e (first-has t w c (rw e at l))
+      has n l (inr (inl e)) = rw e (second-has t w c (rw e at l))
+      has n l (inr (inr z)) = absurd z
 
   virtual-loads : (c : VirtualConflict) → Loads (Q.VirtualConflict c) t (virtualConflict c t .table)
-  virtual-loads c =
-      let m = virtual-reaches t room w c in
-      record {
-        begin = m .begin;
-        still = λ n l p. virtual-lasts n c t (record { full = w .full; there = p }) .there;
-        new = new;
-        only = empty-still (Q.VirtualConflict c) t (virtualConflict c t .table) m;
-      }
+  virtual-loads c = loads-by (Q.VirtualConflict c) (virtualConflict c t .table) (virtual-reaches t room w c) (λ n l h. virtual-lasts n c t h) has
     where
-      new : (n : ℕ) → n < t .begin → n ∈ namedForLoading (Q.VirtualConflict c) → T (present (virtualConflict c t .table) n)
-      new n l (inl e) = rw e (virtual-has t w c (rw e at l) .there)
-      new n l (inr z) = absurd z
+      has : (n : ℕ) → n < t .begin → n ∈ namedForLoading (Q.VirtualConflict c) → Has n (virtualConflict c t .table)
+      has n l (inl e) = rw e (virtual-has t w c (rw e at l))
+      has n l (inr z) = absurd z
 
   expansion-loads : (e : Expansion) → verdict (Q.Expansion e) t room ≡ W.Accepted → Loads (Q.Expansion e) t (expansion (e .node .0) t .table)
   expansion-loads e ok =
-      let m = expansion-reaches t room w e ok in
       let b = acceptable-expansion t room e ok .blossom in
-      record {
-        begin = m .begin;
-        still = λ n l p. expansion-lasts n (e .node .0) (λ z. omega (arith, b)) t (record { full = w .full; there = p }) .there;
-        new = λ n l z. absurd z;
-        only = empty-still (Q.Expansion e) t (expansion (e .node .0) t .table) m;
-      }
+      loads-by (Q.Expansion e) (expansion (e .node .0) t .table) (expansion-reaches t room w e ok) (λ n l h. expansion-lasts n (e .node .0) (λ z. omega (arith, b)) t h)
+      (λ n l z. absurd z)
 
 same-loads : (q : Request) (t : Table) → ((n : ℕ) → ¬ (n ∈ namedForLoading q)) → Loads q t t
 same-loads q t none-named = record { begin = refl; still = λ n l p. p; new = λ n l i. absurd (none-named n i); only = λ n l p i. p }
@@ -122,17 +119,9 @@ same-loads q t none-named = record { begin = refl; still = λ n l p. p; new = λ
 -- ---- a table as made has no defects
 
 pub fresh-none : (begin n : ℕ) → isPresentDefect (fresh begin) n ≡ false
-fresh-none begin n = rw (fresh-at begin n) (go (isDefect (fresh begin) n))
-  where
-    go : (d : Bool) → (d && false) ≡ false
-    go true = refl
-    go false = refl
+fresh-none begin n = rw (fresh-at begin n) (and-false (isDefect (fresh begin) n))
 
 -- ---- by the verdict
-
-or-nothing : (b : Bool) → b ≡ (b || false)
-or-nothing true = refl
-or-nothing false = refl
 
 module _ (t : Table) (room : ℕ) (w : Whole t) (n : ℕ) where
   abbrev AsLoaded : Request → Type 0
@@ -148,11 +137,11 @@ module _ (t : Table) (room : ℕ) (w : Whole t) (n : ℕ) where
 
   where-refused : (q : Request) (r : Refusal) → verdict q t room ≡ W.Refused r → AsLoaded q
   unfolding answered skip
-  where-refused (Q.Conflict c) r a = rw a (or-nothing (isPresentDefect t n))
-  where-refused (Q.VirtualConflict c) r a = rw a (or-nothing (isPresentDefect t n))
-  where-refused (Q.Expansion e) r a = rw a (or-nothing (isPresentDefect t n))
-  where-refused Q.Reset r a = rw a (or-nothing (isPresentDefect t n))
-  where-refused Q.List r a = rw a (or-nothing (isPresentDefect t n))
+  where-refused (Q.Conflict c) r a = rw a (sym (or-false (isPresentDefect t n)))
+  where-refused (Q.VirtualConflict c) r a = rw a (sym (or-false (isPresentDefect t n)))
+  where-refused (Q.Expansion e) r a = rw a (sym (or-false (isPresentDefect t n)))
+  where-refused Q.Reset r a = rw a (sym (or-false (isPresentDefect t n)))
+  where-refused Q.List r a = rw a (sym (or-false (isPresentDefect t n)))
 
   pub answered-present : (q : Request) → AsLoaded q
   answered-present q = go (verdict q t room) refl

@@ -1,23 +1,16 @@
--- A run serves the requests of the records that it handles, and these stand between the tape's start and the rest; what is present
--- in the end was loaded by them.
+-- A run serves the requests of the records that it handles, and what is present in the end was loaded by them.
 use mathlib.Core.Path.{_≡_, refl, ap, sym, _∙_}
-use mathlib.Core.Bool.{Bool, true, false}
 use mathlib.Core.List.{List, [], _∷_}
-use Prim.Native.Nat.{ℕ, zero, suc, _+_, _-_}
-use native.Mathlib.Omega.{arith}
-use lib.Dec.{eqb, ltb}
-use lib.ListN.{length, drop}
-use Rattle.lists.specs.Choice.{pick}
+use Prim.Native.Nat.{ℕ, _-_}
 use Rattle.record.specs.declared.request.Request.{Request}
-use Rattle.record.specs.declared.request.Reading.{Reading}
-use Rattle.record.specs.declared.request.Reading.the-variants as G
-use Rattle.record.specs.Reading as reading
 use Rattle.rules.specs.Act.{World}
-use Rattle.rules.specs.Run.{Stop, tapeEmpty, allowanceUsed, outputFull, Progress, Ended, stopped, advanced, goOn, room, served, runFrom, Between}
+use Rattle.rules.specs.Run.{Progress, room, served, runFrom, requestsOf}
+use Rattle.rules.proofs.RunInduction.{OfRuns, AtAStop, run-induction}
+use Rattle.rules.proofs.TapeRequests.{first-request}
 use Rattle.listed.specs.Named.{isPresentDefect}
 use Rattle.kept.proofs.Renewing.{Whole}
 use Rattle.kept.proofs.Serving.{served-whole}
-use Rattle.loaded.specs.Loaded.{Events, loadedAfter, servedAll, loadedBy, readOn, requestsOf}
+use Rattle.loaded.specs.Loaded.{Events, loadedAfter, servedAll, loadedBy}
 use Rattle.loaded.proofs.Presence.{served-present}
 
 -- ---- requests served one after another
@@ -33,59 +26,24 @@ all-present (q ∷ qs) w h n =
 
 -- ---- the records of a run
 
--- so many more records were handled: they stand between where the run stood and where it ended, and their requests were served
-pub record ServedTo (p : Progress) (e : Ended) : Type 0 where
-  pub more : ℕ
-  pub handled : e .progress .handled ≡ p .handled + more
-  pub between : Between more (p .rest) (e .progress .rest)
-  pub world : e .progress .world ≡ servedAll (requestsOf more (p .rest)) (p .world)
+-- the requests of so many records were served
+abbrev pub Served : OfRuns
+Served n p e = e .progress .world ≡ servedAll (requestsOf n (p .rest)) (p .world)
 
-at-once : (s : Stop) (p : Progress) → ServedTo p (stopped s p)
+at-once : AtAStop Served
 unfolding requestsOf
-at-once s p = record { more = 0; handled = omega arith; between = refl; world = refl }
+at-once s p = refl
 
-either : (p : Progress) (b : Bool) (e f : Ended) → ServedTo p e → ServedTo p f → ServedTo p (pick b e f)
-either p true e f h k = h
-either p false e f h k = k
-
-pub first-request : (k : ℕ) (tape : List ℕ) (q : Request) (size : ℕ) → reading.read tape ≡ G.Request q size → requestsOf (suc k) tape ≡ q ∷ requestsOf k (drop size tape)
-unfolding requestsOf
-first-request k tape q size e = ap (λ (r : Reading). readOn (requestsOf k) r tape) e
-
-gone-on :
-    (more : Progress → Ended)
-    → ((p : Progress) → ServedTo p (more p))
-    → (p : Progress) (r : Reading)
-    → reading.read (p .rest) ≡ r
-    → ServedTo p (goOn more r p)
-unfolding requestsOf
-gone-on more h p (G.Request q size) e =
-    let c = h (advanced q size p) in
-    record {
-      more = suc (c .more);
-      handled = omega (arith, c .handled);
-      between = (q, size, e, c .between);
-      world = c .world ∙ ap (λ (qs : List Request). servedAll qs (p .world)) (sym (first-request (c .more) (p .rest) q size e));
-    }
-gone-on more h p (G.Refused n) e = record { more = 0; handled = omega arith; between = refl; world = refl }
-
-pub run-serves : (k : ℕ) (p : Progress) → ServedTo p (runFrom k p)
-unfolding runFrom
-run-serves zero p = either p (eqb (length (p .rest)) 0) (stopped tapeEmpty p) (stopped allowanceUsed p) (at-once tapeEmpty p) (at-once allowanceUsed p)
-run-serves (suc k) p =
-    let after = goOn (runFrom k) (reading.read (p .rest)) p in
-    either p (eqb (length (p .rest)) 0) (stopped tapeEmpty p) (pick (ltb (room (p .world)) 4102) (stopped outputFull p) after) (at-once tapeEmpty p)
-    (either p (ltb (room (p .world)) 4102) (stopped outputFull p) after (at-once outputFull p) (gone-on (runFrom k) (run-serves k) p (reading.read (p .rest)) refl))
+pub run-serves : (allowance : ℕ) (p : Progress) → let e = runFrom allowance p in Served (e .progress .handled - p .handled) p e
+run-serves =
+    run-induction Served at-once
+    (λ n p q size e r fits ih. ih ∙ ap (λ (qs : List Request). servedAll qs (p .world)) (sym (first-request n (p .rest) q size r)))
 
 pub run-present :
     (allowance : ℕ) (p : Progress)
     → Whole (p .world .table)
     → let e = runFrom allowance p .progress in
-    let k = e .handled - p .handled in
-    Between k (p .rest) (e .rest)
-    × (e .world ≡ servedAll (requestsOf k (p .rest)) (p .world))
-    × ((n : ℕ) → isPresentDefect (e .world .table) n ≡ loadedBy (requestsOf k (p .rest)) (p .world) (isPresentDefect (p .world .table)) n)
-run-present allowance p h =
-    let r = run-serves allowance p in
-    let count : runFrom allowance p .progress .handled - p .handled ≡ r .more = omega (arith, r .handled) in
-    rw count (r .between, r .world, λ n. ap (λ (w : World). isPresentDefect (w .table) n) (r .world) ∙ all-present (requestsOf (r .more) (p .rest)) (p .world) h n)
+    (n : ℕ) → isPresentDefect (e .world .table) n ≡ loadedBy (requestsOf (e .handled - p .handled) (p .rest)) (p .world) (isPresentDefect (p .world .table)) n
+run-present allowance p h n =
+    ap (λ (w : World). isPresentDefect (w .table) n) (run-serves allowance p)
+    ∙ all-present (requestsOf (runFrom allowance p .progress .handled - p .handled) (p .rest)) (p .world) h n

@@ -1,37 +1,30 @@
 -- A tape run on a table as made, by the run's promise: what is present in the end was loaded by the requests that stand between the
 -- tape's start and the rest, and the listing names it.
-use mathlib.Core.Path.{_≡_, ap, sym, subst, _∙_}
+use mathlib.Core.Path.{_≡_, ap, _∙_}
 use mathlib.Core.Bool.{Bool}
 use mathlib.Core.List.{List}
-use Prim.Native.Nat.{ℕ, zero, suc, _≤_}
-use native.Mathlib.Omega.{arith}
+use Prim.Native.Nat.{ℕ, _≤_}
+use native.Mathlib.Nat.{sub-zero}
 use lib.Dec.{T}
-use lib.ListN.{length, drop}
 use Rattle.lists.specs.Choice.{pick}
 use Rattle.table.specs.Table.{Table}
 use Rattle.table.specs.Words.{tableOf}
 use Rattle.table.proofs.WordsOfSlots.{slots-length}
 use Rattle.counts.specs.Making.{fresh}
-use Rattle.record.specs.declared.request.Request.{Request}
 use Rattle.rules.specs.Act.{World, worldOf}
 use Rattle.rules.specs.Sound.{sound}
 use Rattle.rules.specs.Listing.{listing}
-use Rattle.rules.specs.Run.{Ran, ran, Ended, began, runFrom, runTape, Between}
+use Rattle.rules.specs.Run.{ran, Ended, began, runFrom, Between, requestsOf}
+use Rattle.rules.proofs.RunCounts.{run-counts}
 use Rattle.listed.specs.Named.{namedIn, times, isPresentDefect, AllMatched}
 use Rattle.listed.proofs.EachEventOnce.{every-event-once}
 use Rattle.outcome.specs.Tape.{HandsOut, Tape}
-use Rattle.sound_facts.proofs.Reflect.{test-true}
+use Rattle.outcome.proofs.RunOutcomes.{sound-outcome}
 use Rattle.kept.proofs.Wholes.{to-whole}
 use Rattle.kept.proofs.Kept.{made-sound, run-keeps-sound}
-use Rattle.loaded.specs.Loaded.{noEvents, servedAll, loadedBy, requestsOf}
+use Rattle.loaded.specs.Loaded.{noEvents, servedAll, loadedBy}
 use Rattle.loaded.proofs.Presence.{fresh-none}
-use Rattle.loaded.proofs.ServedRecords.{ServedTo, first-request, loaded-from, all-present, run-serves}
-
--- as many requests as records
-pub as-many : (k : ℕ) (tape rest : List ℕ) → Between k tape rest → length (requestsOf k tape) ≡ k
-unfolding requestsOf
-as-many zero tape rest b = omega arith
-as-many (suc k) tape rest (q, size, e, b) = ap (λ (qs : List Request). length qs) (first-request k tape q size e) ∙ ap suc (as-many k (drop size tape) rest b)
+use Rattle.loaded.proofs.ServedRecords.{loaded-from, all-present, run-serves}
 
 module _ (begin : ℕ) (low : 1 ≤ begin) (high : begin ≤ 256) (allowance : ℕ) (words bytes tape : List ℕ) (stop refusal handled written : ℕ) (rest words′ bytes′ : List ℕ) (made : tableOf words ≡ fresh begin) (h : Tape allowance words bytes tape stop refusal handled written rest words′ bytes′) where
   abbrev w : World
@@ -43,28 +36,21 @@ module _ (begin : ℕ) (low : 1 ≤ begin) (high : begin ≤ 256) (allowance : �
   start-sound : T (sound (tableOf words))
   start-sound = rw made (made-sound begin low high)
 
-  is-ran : runTape allowance w tape ≡ ran e
-  unfolding runTape
-  is-ran = rw (test-true (sound (tableOf words)) start-sound)
-
   -- a table as made is sound, so the run is not refused
   out : HandsOut (ran e) words bytes tape stop refusal handled written rest words′ bytes′
-  out = subst (λ (x : Ran). HandsOut x words bytes tape stop refusal handled written rest words′ bytes′) is-ran h
-
-  records : ServedTo (began w tape) e
-  records = run-serves allowance (began w tape)
-
-  count : records .more ≡ handled
-  count = omega (arith, out .2, records .handled)
+  out = sound-outcome allowance words bytes tape stop refusal handled written rest words′ bytes′ h start-sound
 
   pub tape-between : Between handled tape rest
-  tape-between = subst (λ (k : ℕ). Between k tape rest) count (subst (λ (r : List ℕ). Between (records .more) tape r) (sym (out .3)) (records .between))
+  tape-between = rw (out .2, out .3) (run-counts allowance w tape)
 
   table-after : tableOf words′ ≡ e .progress .world .table
   table-after = ap (λ (x : World). x .table) (out .4)
 
+  run-served : e .progress .world ≡ servedAll (requestsOf (e .progress .handled) tape) w
+  run-served = rw sub-zero at (run-serves allowance (began w tape))
+
   all-served : tableOf words′ ≡ servedAll (requestsOf handled tape) w .table
-  all-served = table-after ∙ ap (λ (x : World). x .table) (records .world) ∙ ap (λ (k : ℕ). servedAll (requestsOf k tape) w .table) count
+  all-served = rw (out .2) (table-after ∙ ap (λ (x : World). x .table) run-served)
 
   pub tape-present : (n : ℕ) → isPresentDefect (tableOf words′) n ≡ loadedBy (requestsOf handled tape) w noEvents n
   tape-present n =

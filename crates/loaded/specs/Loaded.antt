@@ -1,17 +1,14 @@
--- Which events are loaded: by a request, by requests served one after another, and by the records of a tape.
+-- Which events are loaded: by a request, and by requests served one after another, as those of a tape (`requestsOf` of
+-- rules/specs/Run) are.
 use mathlib.Core.Bool.{Bool, true, false, _&&_, _||_}
 use mathlib.Core.List.{List, [], _∷_}
-use Prim.Native.Nat.{ℕ, zero, suc}
-use lib.ListN.{drop}
+use Prim.Native.Nat.{ℕ}
 use Rattle.lists.specs.Choice.{pick}
 use Rattle.table.specs.Table.{Table}
 use Rattle.refusal.specs.declared.Verdict.{Verdict}
 use Rattle.refusal.specs.declared.Verdict.the-variants as W
 use Rattle.record.specs.declared.request.Request.{Request}
 use Rattle.record.specs.declared.request.Request.the-variants as Q
-use Rattle.record.specs.declared.request.Reading.{Reading}
-use Rattle.record.specs.declared.request.Reading.the-variants as G
-use Rattle.record.specs.Reading as reading
 use Rattle.rules.specs.Act.{World}
 use Rattle.rules.specs.Walk.{isIn}
 use Rattle.rules.specs.Trees.{isUnloaded}
@@ -27,7 +24,8 @@ noEvents n = false
 
 -- ---- one request
 
--- "named here or in a virtual conflict": the nodes that a request names for loading
+-- "named here or in a virtual conflict": the nodes that a request names for loading. They are the nodes that it names (`named` of
+-- rules/specs/Concerns), but for the one that an expansion names: only a blossom is expanded, and blossoms are not loaded.
 abbrev pub namedForLoading : Request → List ℕ
 namedForLoading (Q.Conflict c) = c .«node_1» .0 ∷ c .«node_2» .0 ∷ []
 namedForLoading (Q.VirtualConflict c) = c .node .0 ∷ []
@@ -66,15 +64,3 @@ servedAll (q ∷ qs) w = servedAll qs (served q w)
 abbrev pub loadedBy : List Request → World → Events → Events
 loadedBy [] w before = before
 loadedBy (q ∷ qs) w before = loadedBy qs (served q w) (loadedAfter q (room w) (w .table) before)
-
--- ---- a tape
-
--- the request that was read, and those that more reads behind its record
-abbrev pub readOn : (List ℕ → List Request) → Reading → List ℕ → List Request
-readOn more (G.Request q size) tape = q ∷ more (drop size tape)
-readOn more (G.Refused n) tape = []
-
--- the requests of a tape's first records, so many of them
-unfoldable pub requestsOf : ℕ → List ℕ → List Request
-requestsOf zero tape = []
-requestsOf (suc k) tape = readOn (requestsOf k) (reading.read tape) tape

@@ -13,7 +13,7 @@ use Rattle.rules.specs.Calls.{actOf, verdict}
 use Rattle.rules.specs.Concerns.{isMaking}
 use Rattle.kept.proofs.Wholes.{from-whole}
 use Rattle.kept.proofs.Renewing.{Whole}
-use Rattle.orders.proofs.Within.{Alike, Moved, Acted}
+use Rattle.orders.proofs.Within.{Alike, Moved, Acted, alike-itself}
 use Rattle.orders.specs.Orders.{Asked, ApartIn}
 use Rattle.orders.proofs.Areas.{InArea, in-area-or-not, area-closed, apart-back, areas-apart}
 use Rattle.orders.proofs.RequestsWithin.{request-acted, request-verdict}
@@ -22,7 +22,7 @@ use Rattle.orders.proofs.RequestsWithin.{request-acted, request-verdict
 
 module _ (t : Table) (w : Whole t) where
   pub alike-self : (r : Request) (m : ℕ) → Asked t r m → Alike (InArea r t) t t
-  alike-self r m a = record { full = w .full; full-too = w .full; closed = area-closed r t m w (a .accepted); agree = λ n i. refl; begin = refl }
+  alike-self r m a = alike-itself (InArea r t) t (w .full) (area-closed r t m w (a .accepted))
 
   pub done-alone : (r : Request) (m : ℕ) → Asked t r m → Acted (InArea r t) (isMaking r t) t t (actOf r t) (actOf r t)
   done-alone r m a = request-acted t m w t r (a .three) (a .accepted) (alike-self r m a) (λ _. refl)

@@ -35,6 +35,9 @@ pub record Alike (S : ℕ → Type 0) (t u : Table) : Type 0 where
   pub agree : (n : ℕ) → S n → at t n ≡ at u n
   pub begin : t .begin ≡ u .begin
 
+pub alike-itself : (S : ℕ → Type 0) (t : Table) → Full t → Closed S t → Alike S t t
+alike-itself S t full closed = record { full = full; full-too = full; closed = closed; agree = λ n m. refl; begin = refl }
+
 -- what a rule made of each: they are alike within S, and elsewhere as they were. The count of defects is the larger of two, the
 -- count of blossoms grows by so many, and by none where no blossom may be made.
 pub record Moved (S : ℕ → Type 0) (making : Bool) (t u v w : Table) : Type 0 where
@@ -60,6 +63,14 @@ pub choose-alike : {A : Type 0} (b : Bool) (f g : Table → A) (t u : Table) →
 unfolding choose
 choose-alike true f g t u p q = p
 choose-alike false f g t u p q = q
+
+-- what holds of a slot before a store, and of what is stored where it is that slot, holds of the slot afterwards
+pub slot-after : (P : Slot → Type 0) (t : Table) (n j : ℕ) (s : Slot) → Full t → (j ≡ n → P s) → P (at t j) → P (at (put t n s) j)
+slot-after P t n j s f new old =
+    elim (same-or-not j n) [
+      | inr d ↦ rw (at-put-other t n j s d) old
+      | inl e ↦ elim (decLt n 256) [ yes l ↦ rw (e, at-put-same t n s f l) (new e) | no g ↦ rw (put-out t n s f (omega arith)) old ]
+    ]
 
 module _ (S : ℕ → Type 0) (making : Bool) where
   -- a function of the table, and an act, that stay within S
@@ -103,13 +114,6 @@ module _ (S : ℕ → Type 0) (making : Bool) where
 
   -- ---- one store
 
-  slot-after : (t : Table) (n j : ℕ) (s : Slot) (P : Slot → Type 0) → Full t → P s → P (at t j) → P (at (put t n s) j)
-  slot-after t n j s P f ps pt =
-      elim (same-or-not j n) [
-        | inr d ↦ rw (at-put-other t n j s d) pt
-        | inl e ↦ elim (decLt n 256) [ yes l ↦ rw (e, at-put-same t n s f l) ps | no g ↦ rw (put-out t n s f (omega arith)) pt ]
-      ]
-
   put-agree : (t u : Table) (n : ℕ) (s : Slot) → Alike S t u → (j : ℕ) → S j → at (put t n s) j ≡ at (put u n s) j
   put-agree t u n s a j m =
       elim (same-or-not j n) [
@@ -127,7 +131,7 @@ module _ (S : ℕ → Type 0) (making : Bool) where
         alike = record {
           full = put-full t n s (a .full);
           full-too = put-full u n s (a .full-too);
-          closed = record { nothing = a .closed .nothing; pointers = λ j k. slot-after t n j s (In S) (a .full) i (a .closed .pointers j k) };
+          closed = record { nothing = a .closed .nothing; pointers = λ j k. slot-after (In S) t n j s (a .full) (λ e. i) (a .closed .pointers j k) };
           agree = put-agree t u n s a;
           begin = a .begin;
         };

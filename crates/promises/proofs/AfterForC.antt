@@ -12,8 +12,9 @@ use Rattle.record.specs.declared.request.Request.the-variants as Q
 use Rattle.record.specs.Writing.{bytesOf}
 use Rattle.rules.specs.Sound.{sound}
 use Rattle.rules.specs.Calls.{verdict, verdictNumber, answered}
+use Rattle.rules.specs.Run.{requestsOf}
 use Rattle.outcome.specs.Numbered.{Called, WasReset, WasMade, Run}
-use Rattle.promises.specs.InARow.{requestsOf, inARow}
+use Rattle.promises.specs.InARow.{inARow}
 use Rattle.promises.proofs.LeftForC.{made-0-sound, not-made-same, called-sound, ran-sound, called-left, ran-left}
 
 -- ---- sound after

@@ -14,11 +14,13 @@ use Rattle.record.specs.declared.request.Request.{Request}
 use Rattle.record.specs.Fields.{AllBytes}
 use Rattle.record.specs.Writing.{bytesOf}
 use Rattle.rules.specs.Calls.{actOf, verdict, answered}
+use Rattle.rules.specs.Run.{requestsOf}
+use Rattle.rules.proofs.TapeRequests.{as-many}
 use Rattle.outcome.specs.Call.{Call}
 use Rattle.outcome.specs.Tape.{Tape}
-use Rattle.promises.specs.InARow.{requestsOf, tapeOf, inARow}
+use Rattle.promises.specs.InARow.{tapeOf, inARow}
 use Rattle.promises.proofs.RunCounts.{counts-records}
-use Rattle.promises.proofs.TapeEnd.{so-many, before-rest}
+use Rattle.promises.proofs.TapeEnd.{before-rest}
 use Rattle.promises.proofs.BytesLeft.{accepted-left, refused-left, call-fits, call-left, run-left}
 
 -- ---- each request, on any words
@@ -65,7 +67,7 @@ module _ (allowance : ℕ) (words bytes tape : List ℕ) (stop refusal handled w
   -- those requests are the ones between the tape's start and the rest: as many as the run counts, and, on a tape of bytes, their
   -- records one after another with the rest behind them are the tape
   pub run-requests : length (requestsOf handled tape) ≡ handled
-  run-requests = so-many handled tape rest (counts-records words bytes tape stop refusal handled written rest words′ bytes′ allowance h)
+  run-requests = as-many handled tape rest (counts-records words bytes tape stop refusal handled written rest words′ bytes′ allowance h)
 
   pub run-tape : AllBytes tape → tape ≡ tapeOf (requestsOf handled tape) ++ rest
   run-tape a = before-rest handled tape rest a (counts-records words bytes tape stop refusal handled written rest words′ bytes′ allowance h)

@@ -1,7 +1,7 @@
 -- What whatever keeps a promise leaves in the lent bytes, call by call.
 use mathlib.Core.Path.{_≡_, refl, ap, _∙_}
 use mathlib.Core.List.{List, [], _++_}
-use Prim.Native.Nat.{ℕ, _-_, _≤_}
+use Prim.Native.Nat.{ℕ, _≤_}
 use native.Mathlib.Nat.{zero-add}
 use native.Mathlib.Omega.{arith}
 use lib.ListN.{length, drop}
@@ -18,16 +18,16 @@ use Rattle.record.specs.declared.answer.Record.{Record}
 use Rattle.record.specs.Writing.{Out, outOf, writeAll, bytesOf}
 use Rattle.rules.specs.Act.{World, worldOf, run, skip}
 use Rattle.rules.specs.Calls.{actOf, verdict, answered}
-use Rattle.rules.specs.Run.{Ran, unsound, ran, Ended, runTape}
+use Rattle.rules.specs.Run.{requestsOf}
 use Rattle.kept.proofs.Wholes.{to-whole}
 use Rattle.listed.proofs.ListingRoom.{run-written}
 use Rattle.commands.proofs.AnsweredBytes.{answered-bytes}
 use Rattle.outcome.specs.Handled.{Outcome}
 use Rattle.outcome.specs.Call.{Call}
-use Rattle.outcome.specs.Tape.{HandsOut, Tape}
-use Rattle.promises.specs.InARow.{requestsOf, inARow}
+use Rattle.outcome.specs.Tape.{Tape}
+use Rattle.outcome.proofs.RunOutcomes.{RunOutcome, not-sound, did-run, run-outcome}
+use Rattle.promises.specs.InARow.{inARow}
 use Rattle.promises.proofs.Accepted.{done, answered-act}
-use Rattle.promises.proofs.Determining.{tape-ran}
 use Rattle.promises.proofs.RunInARow.{run-in-row}
 
 -- answers, and behind them the bytes as they were
@@ -109,21 +109,11 @@ module _ (words bytes tape : List ℕ) (stop refusal handled written : ℕ) (res
         bytes-left = left (inARow (requestsOf handled tape) (tableOf words) .said) bytes bytes′ written fits (ap (λ (w : World). w .out) e);
       }
 
-  -- what is known of a run that was not refused
-  abbrev AllDone : Ended → Type 0
-  AllDone e =
-      (e .progress .world ≡ run (worldOf words bytes 0) (inARow (requestsOf (e .progress .handled) tape)))
-      × (length (bytesOf (inARow (requestsOf (e .progress .handled) tape) (tableOf words) .said)) ≤ length bytes - 0)
-
-  row-by : (x : Ran) → ((e : Ended) → x ≡ ran e → AllDone e) → HandsOut x words bytes tape stop refusal handled written rest words′ bytes′ → Row
-  row-by unsound f h = none-done (h .2) (h .3) (h .5) (h .6)
-  row-by (ran e) f h =
-      let k : AllDone e = f e refl in row-done (rw (h .2) (h .4 ∙ k .0)) (rw (h .2) (omega (arith, k .1)))
+  row-by : (allowance : ℕ) → RunOutcome allowance words bytes tape stop refusal handled written rest words′ bytes′ → Row
+  row-by allowance (not-sound d h) = none-done (h .2) (h .3) (h .5) (h .6)
+  row-by allowance (did-run s h) =
+      let k = run-in-row allowance (worldOf words bytes 0) tape (to-whole (tableOf words) (slots-length words) s) in
+      row-done (rw (h .2) (h .4 ∙ k .0)) (rw (h .2) (omega (arith, k .1)))
 
   pub run-left : (allowance : ℕ) → Tape allowance words bytes tape stop refusal handled written rest words′ bytes′ → Row
-  run-left allowance h =
-      row-by (runTape allowance (worldOf words bytes 0) tape)
-      (λ e q.
-      let o = tape-ran allowance (worldOf words bytes 0) tape e q in
-      rw (o .1) at (run-in-row allowance (worldOf words bytes 0) tape (to-whole (tableOf words) (slots-length words) (o .0))))
-      h
+  run-left allowance h = row-by allowance (run-outcome allowance words bytes tape stop refusal handled written rest words′ bytes′ h)

@@ -24,7 +24,7 @@ use Rattle.record.specs.declared.request.Request.{Request}
 use Rattle.rules.specs.Act.{Act, World, worldOf, run}
 use Rattle.rules.specs.Sound.{sound}
 use Rattle.rules.specs.Calls.{actOf, verdict}
-use Rattle.rules.specs.Run.{Ran, unsound, ran, Ended, began, runFrom, runTape}
+use Rattle.rules.specs.Run.{began}
 use Rattle.kept.proofs.Resetting.{fresh-at}
 use Rattle.kept.proofs.Kept.{run-keeps-sound}
 use Rattle.sound_facts.proofs.SoundFacts.{sound→facts}
@@ -32,7 +32,8 @@ use Rattle.outcome.specs.Handled.{Outcome}
 use Rattle.outcome.specs.Call.{Call}
 use Rattle.promises.specs.Lent.{Lent}
 use Rattle.promises.proofs.Accepted.{act-sound}
-use Rattle.outcome.specs.Tape.{HandsOut, Tape}
+use Rattle.outcome.specs.Tape.{Tape}
+use Rattle.outcome.proofs.RunOutcomes.{RunOutcome, not-sound, did-run, run-outcome}
 
 -- the words of a sound table are determined by it
 pub same-words : (words words′ : List ℕ) → Lent words → Lent words′ → tableOf words ≡ tableOf words′ → T (sound (tableOf words)) → words ≡ words′
@@ -83,26 +84,6 @@ call-determined q words bytes r r′ words₁ words₂ bytes₁ bytes₂ l₁ l�
 
 -- ---- the run
 
-hands-out-once :
-    (x : Ran) (words bytes tape : List ℕ) (stop stop′ refusal refusal′ handled handled′ written written′ : ℕ) (rest rest′ words₁ words₂ bytes₁ bytes₂ : List ℕ)
-    → ((e : Ended) → x ≡ ran e → tableOf words₁ ≡ e .progress .world .table → tableOf words₁ ≡ tableOf words₂ → words₁ ≡ words₂)
-    → HandsOut x words bytes tape stop refusal handled written rest words₁ bytes₁
-    → HandsOut x words bytes tape stop′ refusal′ handled′ written′ rest′ words₂ bytes₂
-    → (stop ≡ stop′) × (refusal ≡ refusal′) × (handled ≡ handled′) × (written ≡ written′) × (rest ≡ rest′) × (words₁ ≡ words₂) × (bytes₁ ≡ bytes₂)
-hands-out-once unsound words bytes tape stop stop′ refusal refusal′ handled handled′ written written′ rest rest′ words₁ words₂ bytes₁ bytes₂ same h k =
-    (h .0 ∙ sym (k .0), h .1 ∙ sym (k .1), h .2 ∙ sym (k .2), h .3 ∙ sym (k .3), h .4 ∙ sym (k .4), h .5 ∙ sym (k .5), h .6 ∙ sym (k .6))
-hands-out-once (ran e) words bytes tape stop stop′ refusal refusal′ handled handled′ written written′ rest rest′ words₁ words₂ bytes₁ bytes₂ same h k =
-    let w : worldOf words₁ bytes₁ written ≡ worldOf words₂ bytes₂ written′ = h .4 ∙ sym (k .4) in
-    (h .0 ∙ sym (k .0), h .1 ∙ sym (k .1), h .2 ∙ sym (k .2), ap (λ (x : World). x .out .pos) w, h .3 ∙ sym (k .3), same e refl (ap (λ (x : World). x .table) (h .4)) (ap (λ (x : World). x .table) w), ap (λ (x : World). x .out .buf) w)
-
-ran-from : (b : Bool) (e₀ e : Ended) → pick b (ran e₀) unsound ≡ ran e → T b × (e₀ ≡ e)
-ran-from true e₀ e q = (tt, cc)
-ran-from false e₀ e q = let z : _≡_ {A = ℕ} 0 1 = cc in absurd (omega arith)
-
-pub tape-ran : (allowance : ℕ) (w : World) (tape : List ℕ) (e : Ended) → runTape allowance w tape ≡ ran e → T (sound (w .table)) × (runFrom allowance (began w tape) ≡ e)
-unfolding runTape
-tape-ran allowance w tape e q = ran-from (sound (w .table)) (runFrom allowance (began w tape)) e q
-
 pub run-determined :
     (allowance : ℕ) (words bytes tape : List ℕ) (stop stop′ refusal refusal′ handled handled′ written written′ : ℕ) (rest rest′ words₁ words₂ bytes₁ bytes₂ : List ℕ)
     → Lent words₁
@@ -111,11 +92,17 @@ pub run-determined :
     → Tape allowance words bytes tape stop′ refusal′ handled′ written′ rest′ words₂ bytes₂
     → (stop ≡ stop′) × (refusal ≡ refusal′) × (handled ≡ handled′) × (written ≡ written′) × (rest ≡ rest′) × (words₁ ≡ words₂) × (bytes₁ ≡ bytes₂)
 run-determined allowance words bytes tape stop stop′ refusal refusal′ handled handled′ written written′ rest rest′ words₁ words₂ bytes₁ bytes₂ l₁ l₂ h k =
-    hands-out-once (runTape allowance (worldOf words bytes 0) tape) words bytes tape stop stop′ refusal refusal′ handled handled′ written written′ rest rest′ words₁ words₂ bytes₁ bytes₂ same h k
+    once (run-outcome allowance words bytes tape stop refusal handled written rest words₁ bytes₁ h) (run-outcome allowance words bytes tape stop′ refusal′ handled′ written′ rest′ words₂ bytes₂ k)
   where
-    same : (e : Ended) → runTape allowance (worldOf words bytes 0) tape ≡ ran e → tableOf words₁ ≡ e .progress .world .table → tableOf words₁ ≡ tableOf words₂ → words₁ ≡ words₂
-    same e q d f =
-        let o = tape-ran allowance (worldOf words bytes 0) tape e q in
-        let s = run-keeps-sound allowance (began (worldOf words bytes 0) tape) (slots-length words) (o .0) in
-        let s′ : T (sound (e .progress .world .table)) = rw (o .1) at s in
-        same-words words₁ words₂ l₁ l₂ f (rw d s′)
+    once :
+        RunOutcome allowance words bytes tape stop refusal handled written rest words₁ bytes₁
+        → RunOutcome allowance words bytes tape stop′ refusal′ handled′ written′ rest′ words₂ bytes₂
+        → (stop ≡ stop′) × (refusal ≡ refusal′) × (handled ≡ handled′) × (written ≡ written′) × (rest ≡ rest′) × (words₁ ≡ words₂) × (bytes₁ ≡ bytes₂)
+    once (not-sound _ a) (not-sound _ b) =
+        (a .0 ∙ sym (b .0), a .1 ∙ sym (b .1), a .2 ∙ sym (b .2), a .3 ∙ sym (b .3), a .4 ∙ sym (b .4), a .5 ∙ sym (b .5), a .6 ∙ sym (b .6))
+    once (not-sound d a) (did-run s b) = absurd (d s)
+    once (did-run s a) (not-sound d b) = absurd (d s)
+    once (did-run s a) (did-run _ b) =
+        let w : worldOf words₁ bytes₁ written ≡ worldOf words₂ bytes₂ written′ = a .4 ∙ sym (b .4) in
+        let after : T (sound (tableOf words₁)) = rw (ap (λ (x : World). x .table) (a .4)) (run-keeps-sound allowance (began (worldOf words bytes 0) tape) (slots-length words) s) in
+        (a .0 ∙ sym (b .0), a .1 ∙ sym (b .1), a .2 ∙ sym (b .2), ap (λ (x : World). x .out .pos) w, a .3 ∙ sym (b .3), same-words words₁ words₂ l₁ l₂ (ap (λ (x : World). x .table) w) after, ap (λ (x : World). x .out .buf) w)

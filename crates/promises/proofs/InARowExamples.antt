@@ -1,7 +1,6 @@
 -- Worked examples: what the requests of a tape are answered in a row, computed.
 use mathlib.Core.Path.{_≡_, refl}
 use mathlib.Core.List.{List, [], _∷_, _++_}
-use Prim.Native.Nat.{ℕ}
 use Rattle.counts.specs.Making.{fresh}
 use Rattle.record.specs.declared.request.Request.{Request}
 use Rattle.record.specs.declared.request.Request.the-variants as Q
@@ -9,23 +8,13 @@ use Rattle.record.specs.Kinds.{layoutOf}
 use Rattle.record.specs.Records.{requestBytes, answerBytes}
 use Rattle.record.specs.Reading as reading
 use Rattle.record.specs.Writing.{bytesOf}
-use Rattle.rules.proofs.Script.{meet, all-rules}
-use Rattle.promises.specs.InARow.{requestsOf, tapeOf, answeredAndEnded, inARow}
+use Rattle.rules.specs.Run.{requestsOf}
+use Rattle.rules.proofs.Script.{meet, printed, all-rules}
+use Rattle.promises.specs.InARow.{tapeOf, answeredAndEnded, inARow}
 
 -- "conflict 0, 1 (touches 0, 1, vertices 10, 11), then list"
 both : List Request
 both = meet 0 1 0 1 10 11 ∷ Q.List ∷ []
-
--- the program's answer, as 01 prints it
-printed : List ℕ
-printed =
-    0x06 ∷ 0x00 ∷ 0x10 ∷ 0x00 ∷ 0x00 ∷ 0x00 ∷ 0x00 ∷ 0x00
-    ∷ 0x06 ∷ 0x00 ∷ 0x10 ∷ 0x00 ∷ 0x01 ∷ 0x00 ∷ 0x00 ∷ 0x00
-    ∷ 0x04 ∷ 0x00 ∷ 0x13 ∷ 0x00 ∷ 0x00 ∷ 0x00
-    ∷ 0x0E ∷ 0x00 ∷ 0x14 ∷ 0x00 ∷ 0x00 ∷ 0x00 ∷ 0x01 ∷ 0x00
-    ∷ 0x0A ∷ 0x00 ∷ 0x00 ∷ 0x00 ∷ 0x0B ∷ 0x00 ∷ 0x00 ∷ 0x00
-    ∷ 0x04 ∷ 0x00 ∷ 0x13 ∷ 0x00 ∷ 0x00 ∷ 0x00
-    ∷ []
 
 answers-printed : bytesOf (inARow both (fresh 128) .said) ≡ printed
 unfolding all-rules answeredAndEnded inARow both printed bytesOf answerBytes

@@ -1,4 +1,4 @@
--- What whatever keeps a promise leaves of the table, call by call: the verdict, the test of begin and the run's outcome as variables.
+-- What whatever keeps a promise leaves of the table, call by call: the verdict and the test of begin as variables.
 use mathlib.Core.Path.{_≡_, refl, ap}
 use mathlib.Core.Bool.{Bool, true, false}
 use mathlib.Core.List.{List}
@@ -21,14 +21,14 @@ use Rattle.record.specs.declared.request.Request.the-variants as Q
 use Rattle.rules.specs.Act.{Act, World, worldOf, run}
 use Rattle.rules.specs.Sound.{sound}
 use Rattle.rules.specs.Calls.{list, actOf, verdict}
-use Rattle.rules.specs.Run.{Ran, unsound, ran, Ended, began, runTape}
+use Rattle.rules.specs.Run.{began}
 use Rattle.kept.proofs.Kept.{made-sound, run-keeps-sound}
 use Rattle.sound_facts.proofs.Reflect.{and→}
 use Rattle.outcome.specs.Handled.{Outcome}
 use Rattle.outcome.specs.Call.{Call}
-use Rattle.outcome.specs.Tape.{HandsOut, Tape}
+use Rattle.outcome.specs.Tape.{Tape}
+use Rattle.outcome.proofs.RunOutcomes.{sound-outcome}
 use Rattle.promises.proofs.Accepted.{act-sound}
-use Rattle.promises.proofs.Determining.{tape-ran}
 
 -- ---- making
 
@@ -90,17 +90,7 @@ module _ (words bytes : List ℕ) (r : Answer) (words′ bytes′ : List ℕ) wh
 -- ---- the run
 
 module _ (words bytes tape : List ℕ) (stop refusal handled written : ℕ) (rest words′ bytes′ : List ℕ) where
-  left-by :
-      (x : Ran)
-      → T (sound (tableOf words))
-      → ((e : Ended) → x ≡ ran e → T (sound (e .progress .world .table)))
-      → HandsOut x words bytes tape stop refusal handled written rest words′ bytes′
-      → T (sound (tableOf words′))
-  left-by unsound s f h = rw (h .5) s
-  left-by (ran e) s f h = let d : tableOf words′ ≡ e .progress .world .table = ap (λ (w : World). w .table) (h .4) in rw d (f e refl)
-
   pub run-sound : (allowance : ℕ) → T (sound (tableOf words)) → Tape allowance words bytes tape stop refusal handled written rest words′ bytes′ → T (sound (tableOf words′))
   run-sound allowance s h =
-      left-by (runTape allowance (worldOf words bytes 0) tape) s
-      (λ e q. rw (tape-ran allowance (worldOf words bytes 0) tape e q .1) at (run-keeps-sound allowance (began (worldOf words bytes 0) tape) (slots-length words) s))
-      h
+      let o = sound-outcome allowance words bytes tape stop refusal handled written rest words′ bytes′ h s in
+      rw (ap (λ (w : World). w .table) (o .4)) (run-keeps-sound allowance (began (worldOf words bytes 0) tape) (slots-length words) s)

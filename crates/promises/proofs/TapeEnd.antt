@@ -1,6 +1,6 @@
 -- What stands behind some records of a tape is the tape's end, and what stands before it is the bytes of the requests read.
-use mathlib.Core.Path.{_≡_, refl, sym, ap, _∙_}
-use mathlib.Core.List.{List, [], _∷_, _++_, append-assoc}
+use mathlib.Core.Path.{_≡_, sym, ap, _∙_}
+use mathlib.Core.List.{List, [], _++_, append-assoc}
 use Prim.Native.Nat.{ℕ, zero, suc, _-_}
 use native.Mathlib.Omega.{arith}
 use lib.ListN.{length, take, drop, length-append, take-append-drop}
@@ -12,8 +12,9 @@ use Rattle.record.specs.Records.{requestBytes}
 use Rattle.record.specs.Reading as reading
 use Rattle.record.proofs.Codec.{bytes-drop}
 use Rattle.record.proofs.Theorems.{read-request}
-use Rattle.rules.specs.Run.{Between}
-use Rattle.promises.specs.InARow.{requestsOf, tapeOf}
+use Rattle.rules.specs.Run.{Between, requestsOf}
+use Rattle.rules.proofs.TapeRequests.{first-request}
+use Rattle.promises.specs.InARow.{tapeOf}
 
 -- tape ends with rest
 record Ends (tape rest : List ℕ) : Type 0 where
@@ -37,15 +38,6 @@ behind-records n tape rest b =
 
 -- ---- the requests of those records
 
-pub first-read : (n : ℕ) (tape : List ℕ) (q : Request) (size : ℕ) → reading.read tape ≡ G.Request q size → requestsOf (suc n) tape ≡ q ∷ requestsOf n (drop size tape)
-unfolding requestsOf
-first-read n tape q size e = rw e
-
-pub so-many : (n : ℕ) (tape rest : List ℕ) → Between n tape rest → length (requestsOf n tape) ≡ n
-unfolding requestsOf
-so-many zero tape rest b = refl
-so-many (suc n) tape rest (q, size, r, b) = ap length (first-read n tape q size r) ∙ ap suc (so-many n (drop size tape) rest b)
-
 one-before :
     (n : ℕ) (tape rest : List ℕ) (q : Request) (size : ℕ)
     → requestBytes q ≡ take size tape
@@ -54,7 +46,7 @@ one-before :
     → tape ≡ tapeOf (requestsOf (suc n) tape) ++ rest
 unfolding tapeOf
 one-before n tape rest q size e r later =
-    rw (first-read n tape q size r)
+    rw (first-request n tape q size r)
     (sym (take-append-drop size tape)
     ∙ ap (λ (l : List ℕ). l ++ drop size tape) (sym e)
     ∙ ap (λ (l : List ℕ). requestBytes q ++ l) later

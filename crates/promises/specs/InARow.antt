@@ -1,25 +1,11 @@
--- What the requests of a tape are answered, one after another.
-use Prim.Native.Nat.{ℕ, zero, suc}
+-- What the requests of a tape (`requestsOf` of rules/specs/Run) are answered, one after another.
+use Prim.Native.Nat.{ℕ}
 use mathlib.Core.List.{List, [], _∷_, _++_}
-use lib.ListN.{drop}
 use Rattle.record.specs.declared.request.Request.{Request}
-use Rattle.record.specs.declared.request.Reading.{Reading}
-use Rattle.record.specs.declared.request.Reading.the-variants as G
 use Rattle.record.specs.declared.answer.Record.the-variants as R
 use Rattle.record.specs.Records.{requestBytes}
-use Rattle.record.specs.Reading as reading
 use Rattle.rules.specs.Act.{Act, skip, _then_}
 use Rattle.rules.specs.Calls.{verdict, verdictNumber, answered}
-
--- the request that a reading found, and what follows behind its record; a bad record ends the list
-abbrev pub requestAnd : (List ℕ → List Request) → Reading → List ℕ → List Request
-requestAnd more (G.Request q size) tape = q ∷ more (drop size tape)
-requestAnd more (G.Refused n) tape = []
-
--- the first so many requests of a tape
-unfoldable pub requestsOf : ℕ → List ℕ → List Request
-requestsOf zero tape = []
-requestsOf (suc n) tape = requestAnd (requestsOf n) (reading.read tape) tape
 
 -- the bytes of requests one after another, as a tape holds them
 unfoldable pub tapeOf : List Request → List ℕ

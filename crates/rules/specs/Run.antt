@@ -69,6 +69,16 @@ abbrev pub Between : ℕ → List ℕ → List ℕ → Type 0
 Between zero tape rest = tape ≡ rest
 Between (suc n) tape rest = (q : Request) × (size : ℕ) × (reading.read tape ≡ G.Request q size) × Between n (drop size tape) rest
 
+-- the request that a reading found, and what follows behind its record; a bad record ends the list
+abbrev pub requestAnd : (List ℕ → List Request) → Reading → List ℕ → List Request
+requestAnd more (G.Request q size) tape = q ∷ more (drop size tape)
+requestAnd more (G.Refused n) tape = []
+
+-- the requests of a tape's first so many records
+unfoldable pub requestsOf : ℕ → List ℕ → List Request
+requestsOf zero tape = []
+requestsOf (suc n) tape = requestAnd (requestsOf n) (reading.read tape) tape
+
 -- "On an unsound table: refusal 1 before any stop, nothing handled."
 pub data Ran : Type 0 where
   unsound : Ran

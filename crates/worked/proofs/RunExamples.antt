@@ -13,7 +13,7 @@ use Rattle.record.specs.Reading as reading
 use Rattle.record.specs.Writing.{outOf, placed, written, writeAll}
 use Rattle.rules.specs.Act.{World}
 use Rattle.rules.specs.Run.{Ran, unsound, ran, stopNumber, runTape}
-use Rattle.rules.proofs.Script.{meet, all-rules}
+use Rattle.rules.proofs.Script.{meet, printed, all-rules}
 
 -- conflict 0, 1 (touches 0, 1, vertices 10, 11), then list
 tape : List ℕ
@@ -39,16 +39,6 @@ reported (ran e) = report (stopNumber (e .stop)) (e .progress .handled) (e .prog
 bytesOf : Ran → List ℕ
 bytesOf unsound = []
 bytesOf (ran e) = take (e .progress .world .out .pos) (e .progress .world .out .buf)
-
-printed : List ℕ
-printed =
-    0x06 ∷ 0x00 ∷ 0x10 ∷ 0x00 ∷ 0x00 ∷ 0x00 ∷ 0x00 ∷ 0x00
-    ∷ 0x06 ∷ 0x00 ∷ 0x10 ∷ 0x00 ∷ 0x01 ∷ 0x00 ∷ 0x00 ∷ 0x00
-    ∷ 0x04 ∷ 0x00 ∷ 0x13 ∷ 0x00 ∷ 0x00 ∷ 0x00
-    ∷ 0x0E ∷ 0x00 ∷ 0x14 ∷ 0x00 ∷ 0x00 ∷ 0x00 ∷ 0x01 ∷ 0x00
-    ∷ 0x0A ∷ 0x00 ∷ 0x00 ∷ 0x00 ∷ 0x0B ∷ 0x00 ∷ 0x00 ∷ 0x00
-    ∷ 0x04 ∷ 0x00 ∷ 0x13 ∷ 0x00 ∷ 0x00 ∷ 0x00
-    ∷ []
 
 program-answer : bytesOf (runTape 10 (world 4200) tape) ≡ printed
 unfolding all-rules tape world bytesOf printed requestBytes answerBytes layoutOf reading.read placed written writeAll
