@@ -7,8 +7,8 @@ use lib.ListN.{replicate}
 use lib.Dec.{leb}
 use Rattle.lists.specs.Choice.{pick}
 use Rattle.refusal.specs.declared.Answer.{Answer}
-use Rattle.refusal.specs.declared.Answer.the-variants.{Done, Refused}
 use Rattle.refusal.specs.declared.Refusal.the-variants.{BadBegin}
+use Rattle.refusal.specs.Refusal.{numberOf, answerNumber, answerWritten}
 use Rattle.slot.specs.Slot.{emptySlot}
 use Rattle.table.specs.Table.{Table}
 use Rattle.table.specs.Words.{tableOf}
@@ -25,9 +25,9 @@ emptied t = fresh (t .begin)
 abbrev pub beginFits : ℕ → Bool
 beginFits b = leb 1 b && leb b 256
 
--- what making answers, and the words before and after
+-- what making answers, by its number and the bytes written, and the words before and after
 abbrev pub Made : List ℕ → ℕ → Answer → List ℕ → Type 0
 Made before b r after =
     pick (beginFits b)
-    ((r ≡ Done 0) × (tableOf after ≡ fresh b))
-    ((r ≡ Refused BadBegin) × (after ≡ before))
+    ((answerNumber r ≡ 0) × (answerWritten r ≡ 0) × (tableOf after ≡ fresh b))
+    ((answerNumber r ≡ numberOf BadBegin) × (answerWritten r ≡ 0) × (after ≡ before))

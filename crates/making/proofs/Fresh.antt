@@ -28,10 +28,10 @@ empty-step ws t₁ t₂ t₃ p q r =
 -- making
 
 pub made-low : (ws : List ℕ) (b : ℕ) → b < 1 → Made ws b (Refused BadBegin) ws
-made-low ws b h = rw (lt-leb 1 b h) (refl, refl)
+made-low ws b h = rw (lt-leb 1 b h) (refl, refl, refl)
 
 pub made-high : (ws : List ℕ) (b : ℕ) → 1 ≤ b → 256 < b → Made ws b (Refused BadBegin) ws
-made-high ws b l h = rw (le-leb 1 b l, lt-leb b 256 h) (refl, refl)
+made-high ws b l h = rw (le-leb 1 b l, lt-leb b 256 h) (refl, refl, refl)
 
 pub made-done :
     (ws vs us : List ℕ) (b : ℕ)
@@ -41,4 +41,4 @@ pub made-done :
     → tableOf us ≡ emptied (tableOf vs)
     → Made ws b (Done 0) us
 unfolding withBegin
-made-done ws vs us b l h p q = rw (le-leb 1 b l, le-leb b 256 h) (refl, q ∙ ap emptied p)
+made-done ws vs us b l h p q = rw (le-leb 1 b l, le-leb b 256 h) (refl, refl, q ∙ ap emptied p)

@@ -23,7 +23,7 @@ use Rattle.outcome.specs.Handled.{Outcome, laterVerdict}
 
 module _ (act : Act) (pos : ℕ) (words bytes : List ℕ) where
   pub refused-by : (v : Verdict) (n : Refusal) → v ≡ W.Refused n → Outcome v act pos words bytes (A.Refused n) words bytes
-  refused-by v n e = rw e (refl, refl, refl)
+  refused-by v n e = rw e (refl, refl, refl, refl)
 
   pub accepted-by :
       (v : Verdict) (p : ℕ) (words′ bytes′ : List ℕ)

@@ -2,6 +2,9 @@
 use mathlib.Core.Path.{_≡_}
 use mathlib.Core.List.{List}
 use Prim.Native.Nat.{ℕ}
+use Rattle.refusal.specs.declared.Answer.the-variants as A
+use Rattle.refusal.specs.declared.Refusal.the-variants.{NotSound}
+use Rattle.refusal.specs.Refusal.{answerNumber}
 use Rattle.rules.specs.Act.{worldOf}
 use Rattle.rules.specs.Run.{Ran, unsound, ran, stopNumber, runTape}
 
@@ -9,10 +12,16 @@ use Rattle.rules.specs.Run.{Ran, unsound, ran, stopNumber, runTape}
 -- stop's number, "how many records it handled and bytes it wrote", and "the unread rest of the caller's tape"
 abbrev pub HandsOut : Ran → List ℕ → List ℕ → List ℕ → ℕ → ℕ → ℕ → ℕ → List ℕ → List ℕ → List ℕ → Type 0
 HandsOut unsound words bytes tape stop refusal handled written rest words′ bytes′ =
-    (stop ≡ 0) × (refusal ≡ 1) × (handled ≡ 0) × (written ≡ 0) × (rest ≡ tape) × (words′ ≡ words) × (bytes′ ≡ bytes)
+    (stop ≡ 0)
+    × (refusal ≡ answerNumber (A.Refused NotSound))
+    × (handled ≡ 0)
+    × (written ≡ 0)
+    × (rest ≡ tape)
+    × (words′ ≡ words)
+    × (bytes′ ≡ bytes)
 HandsOut (ran e) words bytes tape stop refusal handled written rest words′ bytes′ =
     (stop ≡ stopNumber (e .stop))
-    × (refusal ≡ 0)
+    × (refusal ≡ answerNumber (A.Done written))
     × (handled ≡ e .progress .handled)
     × (rest ≡ e .progress .rest)
     × (worldOf words′ bytes′ written ≡ e .progress .world)

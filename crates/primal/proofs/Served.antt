@@ -10,6 +10,7 @@ use Rattle.refusal.specs.declared.Answer.the-variants as A
 use Rattle.refusal.specs.declared.Verdict.{Verdict}
 use Rattle.refusal.specs.declared.Verdict.the-variants as W
 use Rattle.refusal.specs.Refusal.{answerNumber, answerWritten}
+use Rattle.refusal.proofs.Numbers.{is-done, is-refused}
 use Rattle.record.specs.declared.request.Request.{Request}
 use Rattle.record.specs.declared.answer.Record.the-variants as R
 use Rattle.record.specs.Records.{answerBytes}
@@ -49,7 +50,7 @@ module _ (q : Request) (pos : ℕ) (words bytes words′ bytes′ : List ℕ) (a
       → world (tableOf words′) o ≡ served q (worldOf words bytes pos)
   by-verdict W.Accepted e h p =
       let w : World = worldOf words bytes pos in
-      let d : a ≡ A.Done (answerWritten a) = h .0 in
+      let d : a ≡ A.Done (answerWritten a) = is-done a (h .0) in
       let p′ : o ≡ written (outOf bytes′ (answerWritten a)) (answerBytes (R.End 0)) = p ∙ ap (λ (x : Answer). written (outOf bytes′ (posAfter pos x)) (answerBytes (R.End (answerNumber x)))) d in
       let r : World = worldOf words′ bytes′ (answerWritten a) in
       let g : world (tableOf words′) o ≡ world (r .table) (written (r .out) (answerBytes (R.End 0))) = ap (λ (x : Out). world (tableOf words′) x) p′ in
@@ -59,8 +60,8 @@ module _ (q : Request) (pos : ℕ) (words bytes words′ bytes′ : List ℕ) (a
       ∙ sym (served-by q words bytes pos W.Accepted e)
   by-verdict (W.Refused n) e h p =
       let w : World = worldOf words bytes pos in
-      let p′ : o ≡ written (outOf bytes pos) (answerBytes (R.End (answerNumber (A.Refused n)))) = p ∙ rw (h .0, h .2) in
-      rw (h .1, p′)
+      let p′ : o ≡ written (outOf bytes pos) (answerBytes (R.End (answerNumber (A.Refused n)))) = p ∙ rw (is-refused a n (h .0), h .3) in
+      rw (h .2, p′)
       (sym (served-by q words bytes pos (W.Refused n) e ∙ ended-run w skip (verdictNumber (W.Refused n)) ∙ rw run-skip))
 
 pub served-step :

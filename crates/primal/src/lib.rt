@@ -17,7 +17,7 @@ ghost use Rattle.table.specs.Words.{tableOf};
 ghost use Rattle.counts.specs.Making.{Made};
 ghost use Rattle.record.specs.declared.request.Request.the-variants as Q;
 ghost use Rattle.record.specs.Records.{requestBytes, answerBytes};
-ghost use Rattle.record.specs.Reading as reading;
+ghost use Rattle.record.specs.Reading.{Read};
 ghost use Rattle.record.specs.Writing.{outOf, wroteOf, wrote};
 ghost use Rattle.rules.specs.Sound.{sound};
 ghost use Rattle.outcome.specs.Call.{Call, Reset};
@@ -88,7 +88,7 @@ pub fn list(t: &Table, out: &mut [u8]) -> Answer
 
 // The request that stands first on a tape and the bytes that its record fills, or refusal 12.
 pub fn read_record(tape: &[u8]) -> Reading
-    ensures { λ r. ⌜ r ≡ reading.read (now (tape .entry)) ⌝ }
+    ensures { λ r. ⌜ Read (now (tape .entry)) r ⌝ }
 {
     reading::read_record(tape)
 }

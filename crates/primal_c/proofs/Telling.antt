@@ -31,8 +31,8 @@ told-by :
     → Told a number written
     → Numbered v act words bytes number written words′ bytes′
 told-by (W.Refused n) act words bytes a words′ bytes′ number written o p =
-    (p .0 ∙ ap answerNumber (o .0), p .1 ∙ ap answerWritten (o .0), o .1, o .2)
-told-by W.Accepted act words bytes a words′ bytes′ number written o p = (p .0 ∙ ap answerNumber (o .0), rw (p .1) (o .1))
+    (p .0 ∙ o .0, p .1 ∙ o .1, o .2, o .3)
+told-by W.Accepted act words bytes a words′ bytes′ number written o p = (p .0 ∙ o .0, rw (p .1) (o .1))
 
 pub told :
     (q : Request) (words bytes : List ℕ) (a : Answer) (words′ bytes′ : List ℕ) (number written : ℕ)
@@ -64,9 +64,9 @@ told-reset-by :
     → Outcome v (actOf Q.Reset) 0 words [] a words′ []
     → number ≡ answerNumber a
     → Numbered v (actOf Q.Reset) words [] number 0 words′ []
-told-reset-by (W.Refused n) words a words′ number o p = (p ∙ ap answerNumber (o .0), refl, o .1, o .2)
+told-reset-by (W.Refused n) words a words′ number o p = (p ∙ o .0, refl, o .2, o .3)
 told-reset-by W.Accepted words a words′ number o p =
-    (p ∙ ap answerNumber (o .0), reset-written words words′ (answerWritten a) (o .1))
+    (p ∙ o .0, reset-written words words′ (answerWritten a) (o .1))
 
 pub told-reset :
     (words : List ℕ) (a : Answer) (words′ : List ℕ) (number : ℕ)
@@ -77,11 +77,13 @@ told-reset words a words′ number = told-reset-by (verdict Q.Reset (tableOf wor
 
 made-by :
     (fits : Bool) (before after : List ℕ) (b : ℕ) (a : Answer) (number : ℕ)
-    → pick fits ((a ≡ Done 0) × (tableOf after ≡ fresh b)) ((a ≡ Refused BadBegin) × (after ≡ before))
+    → pick fits
+    ((answerNumber a ≡ 0) × (answerWritten a ≡ 0) × (tableOf after ≡ fresh b))
+    ((answerNumber a ≡ numberOf BadBegin) × (answerWritten a ≡ 0) × (after ≡ before))
     → number ≡ answerNumber a
-    → pick fits ((number ≡ 0) × (tableOf after ≡ fresh b)) ((number ≡ numberOf BadBegin) × (after ≡ before))
-made-by true before after b a number m p = (p ∙ ap answerNumber (m .0), m .1)
-made-by false before after b a number m p = (p ∙ ap answerNumber (m .0), m .1)
+    → pick fits ((number ≡ answerNumber (Done 0)) × (tableOf after ≡ fresh b)) ((number ≡ answerNumber (Refused BadBegin)) × (after ≡ before))
+made-by true before after b a number m p = (p ∙ m .0, m .2)
+made-by false before after b a number m p = (p ∙ m .0, m .2)
 
 pub told-made :
     (before after : List ℕ) (b : ℕ) (a : Answer) (number : ℕ)

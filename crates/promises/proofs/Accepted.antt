@@ -14,7 +14,8 @@ use Rattle.refusal.specs.declared.Answer.the-variants as A
 use Rattle.refusal.specs.declared.Refusal.the-variants.{NotSound}
 use Rattle.refusal.specs.declared.Verdict.{Verdict}
 use Rattle.refusal.specs.declared.Verdict.the-variants as W
-use Rattle.refusal.specs.Refusal.{answerWritten}
+use Rattle.refusal.specs.Refusal.{answerNumber, answerWritten}
+use Rattle.refusal.proofs.Numbers.{is-done}
 use Rattle.record.specs.declared.request.Request.{Request}
 use Rattle.record.specs.Writing.{outOf, writeAll}
 use Rattle.rules.specs.Act.{World, worldOf, run}
@@ -38,8 +39,8 @@ done-by :
     → Done q words bytes r words′ bytes′
 unfolding run
 done-by v q words bytes words′ bytes′ r e h =
-    let o : (r ≡ A.Done (answerWritten r)) × (worldOf words′ bytes′ (answerWritten r) ≡ run (worldOf words bytes 0) (actOf q)) = rw e at h in
-    record { answer = o .0; table = ap (λ (w : World). w .table) (o .1); out = ap (λ (w : World). w .out) (o .1) }
+    let o : (answerNumber r ≡ 0) × (worldOf words′ bytes′ (answerWritten r) ≡ run (worldOf words bytes 0) (actOf q)) = rw e at h in
+    record { answer = is-done r (o .0); table = ap (λ (w : World). w .table) (o .1); out = ap (λ (w : World). w .out) (o .1) }
 
 pub done :
     (q : Request) (words bytes words′ bytes′ : List ℕ) (r : Answer)

@@ -12,7 +12,8 @@ use Rattle.refusal.specs.declared.Answer.the-variants as A
 use Rattle.refusal.specs.declared.Refusal.{Refusal}
 use Rattle.refusal.specs.declared.Verdict.{Verdict}
 use Rattle.refusal.specs.declared.Verdict.the-variants as W
-use Rattle.refusal.specs.Refusal.{answerWritten}
+use Rattle.refusal.specs.Refusal.{numberOf, answerNumber, answerWritten}
+use Rattle.refusal.proofs.Numbers.{is-refused}
 use Rattle.record.specs.declared.request.Request.{Request}
 use Rattle.record.specs.declared.answer.Record.{Record}
 use Rattle.record.specs.Writing.{Out, outOf, writeAll, bytesOf}
@@ -71,7 +72,9 @@ module _ (q : Request) (words bytes : List ℕ) (r : Answer) (words′ bytes′ 
       (d .answer ∙ ap A.Done (l .0), l .1)
 
   refused-by : (v : Verdict) (n : Refusal) → v ≡ W.Refused n → Outcome v (actOf q) 0 words bytes r words′ bytes′ → (r ≡ A.Refused n) × (words′ ≡ words) × (bytes′ ≡ bytes)
-  refused-by v n e h = rw e at h
+  refused-by v n e h =
+      let o : (answerNumber r ≡ numberOf n) × (answerWritten r ≡ 0) × (words′ ≡ words) × (bytes′ ≡ bytes) = rw e at h in
+      (is-refused r n (o .0), o .2, o .3)
 
   pub refused-left : (n : Refusal) → verdict q (tableOf words) (length bytes) ≡ W.Refused n → Call q words bytes r words′ bytes′ → (r ≡ A.Refused n) × (words′ ≡ words) × (bytes′ ≡ bytes)
   refused-left n e h = refused-by (verdict q (tableOf words) (length bytes)) n e h

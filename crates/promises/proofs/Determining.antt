@@ -15,11 +15,11 @@ use Rattle.table.proofs.WordsOfSlots.{slots-length}
 use Rattle.table.proofs.Determined.{Undamaged, words-determined}
 use Rattle.counts.specs.Making.{fresh}
 use Rattle.refusal.specs.declared.Answer.{Answer}
-use Rattle.refusal.specs.declared.Answer.the-variants as A
 use Rattle.refusal.specs.declared.Refusal.the-variants.{BadBegin}
 use Rattle.refusal.specs.declared.Verdict.{Verdict}
 use Rattle.refusal.specs.declared.Verdict.the-variants as W
-use Rattle.refusal.specs.Refusal.{answerWritten}
+use Rattle.refusal.specs.Refusal.{numberOf, answerNumber, answerWritten}
+use Rattle.refusal.proofs.Numbers.{same-answer}
 use Rattle.record.specs.declared.request.Request.{Request}
 use Rattle.rules.specs.Act.{Act, World, worldOf, run}
 use Rattle.rules.specs.Sound.{sound}
@@ -42,17 +42,24 @@ same-words words words′ l l′ e s =
 
 -- ---- making
 
+-- the promise of making, with the test of begin as a variable
+abbrev pub MadeBy : Bool → List ℕ → ℕ → Answer → List ℕ → Type 0
+MadeBy fits before b r after =
+    pick fits
+    ((answerNumber r ≡ 0) × (answerWritten r ≡ 0) × (tableOf after ≡ fresh b))
+    ((answerNumber r ≡ numberOf BadBegin) × (answerWritten r ≡ 0) × (after ≡ before))
+
 pub made-once :
     (fits : Bool) (before : List ℕ) (b : ℕ) (r r′ : Answer) (after after′ : List ℕ)
     → Lent after
     → Lent after′
-    → pick fits ((r ≡ A.Done 0) × (tableOf after ≡ fresh b)) ((r ≡ A.Refused BadBegin) × (after ≡ before))
-    → pick fits ((r′ ≡ A.Done 0) × (tableOf after′ ≡ fresh b)) ((r′ ≡ A.Refused BadBegin) × (after′ ≡ before))
+    → MadeBy fits before b r after
+    → MadeBy fits before b r′ after′
     → (r ≡ r′) × (after ≡ after′)
 made-once true before b r r′ after after′ l l′ h h′ =
-    let clear : Undamaged (tableOf after) = λ n q e. let f : S.Empty ≡ S.Damaged = sym (ap (λ (t : Table). at t n .state) (h .1) ∙ ap (λ (x : Slot). x .state) (fresh-at b n)) ∙ e in let z : _≡_ {A = ℕ} 0 1 = cc in absurd (omega arith) in
-    (h .0 ∙ sym (h′ .0), words-determined after after′ (l .1) (l′ .1) (h .1 ∙ sym (h′ .1)) clear (l .0) (l′ .0))
-made-once false before b r r′ after after′ l l′ h h′ = (h .0 ∙ sym (h′ .0), h .1 ∙ sym (h′ .1))
+    let clear : Undamaged (tableOf after) = λ n q e. let f : S.Empty ≡ S.Damaged = sym (ap (λ (t : Table). at t n .state) (h .2) ∙ ap (λ (x : Slot). x .state) (fresh-at b n)) ∙ e in let z : _≡_ {A = ℕ} 0 1 = cc in absurd (omega arith) in
+    (same-answer r r′ (h .0 ∙ sym (h′ .0)) (h .1 ∙ sym (h′ .1)), words-determined after after′ (l .1) (l′ .1) (h .2 ∙ sym (h′ .2)) clear (l .0) (l′ .0))
+made-once false before b r r′ after after′ l l′ h h′ = (same-answer r r′ (h .0 ∙ sym (h′ .0)) (h .1 ∙ sym (h′ .1)), h .2 ∙ sym (h′ .2))
 
 -- ---- requests
 
@@ -64,10 +71,11 @@ module _ (act : Act) (pos : ℕ) (words bytes : List ℕ) (r r′ : Answer) (wor
       → Outcome v act pos words bytes r′ words₂ bytes₂
       → (r ≡ r′) × (words₁ ≡ words₂) × (bytes₁ ≡ bytes₂)
   unfolding run
-  outcome-once (W.Refused n) same h k = (h .0 ∙ sym (k .0), h .1 ∙ sym (k .1), h .2 ∙ sym (k .2))
+  outcome-once (W.Refused n) same h k =
+      (same-answer r r′ (h .0 ∙ sym (k .0)) (h .1 ∙ sym (k .1)), h .2 ∙ sym (k .2), h .3 ∙ sym (k .3))
   outcome-once W.Accepted same h k =
       let e : worldOf words₁ bytes₁ (answerWritten r) ≡ worldOf words₂ bytes₂ (answerWritten r′) = h .1 ∙ sym (k .1) in
-      (h .0 ∙ ap (λ (w : World). A.Done (w .out .pos)) e ∙ sym (k .0), same refl (ap (λ (w : World). w .table) (h .1)) (ap (λ (w : World). w .table) e), ap (λ (w : World). w .out .buf) e)
+      (same-answer r r′ (h .0 ∙ sym (k .0)) (ap (λ (w : World). w .out .pos) e), same refl (ap (λ (w : World). w .table) (h .1)) (ap (λ (w : World). w .table) e), ap (λ (w : World). w .out .buf) e)
 
 pub call-determined :
     (q : Request) (words bytes : List ℕ) (r r′ : Answer) (words₁ words₂ bytes₁ bytes₂ : List ℕ)

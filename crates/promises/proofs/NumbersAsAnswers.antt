@@ -13,12 +13,13 @@ use Rattle.refusal.specs.declared.Answer.the-variants as A
 use Rattle.refusal.specs.declared.Refusal.the-variants.{BadBegin}
 use Rattle.refusal.specs.declared.Verdict.{Verdict}
 use Rattle.refusal.specs.declared.Verdict.the-variants as W
-use Rattle.refusal.specs.Refusal.{numberOf, answerNumber, answerWritten}
+use Rattle.refusal.specs.Refusal.{answerNumber, answerWritten}
 use Rattle.rules.specs.Act.{Act}
 use Rattle.rules.specs.Run.{Ran, unsound, ran}
 use Rattle.outcome.specs.Handled.{Outcome}
 use Rattle.outcome.specs.Tape.{HandsOut}
 use Rattle.outcome.specs.Numbered.{Numbered, RanTape}
+use Rattle.promises.proofs.Determining.{MadeBy}
 
 -- ---- requests
 
@@ -30,7 +31,7 @@ pub answered-by :
     (v : Verdict) (act : Act) (words bytes : List ℕ) (number written : ℕ) (words′ bytes′ : List ℕ)
     → Numbered v act words bytes number written words′ bytes′
     → Outcome v act 0 words bytes (answerOf v written) words′ bytes′
-answered-by (W.Refused n) act words bytes number written words′ bytes′ h = (refl, h .2, h .3)
+answered-by (W.Refused n) act words bytes number written words′ bytes′ h = (refl, refl, h .2, h .3)
 answered-by W.Accepted act words bytes number written words′ bytes′ h = (refl, h .1)
 
 pub number-by :
@@ -48,10 +49,10 @@ madeAnswer false = A.Refused BadBegin
 
 pub made-by :
     (fits : Bool) (before after : List ℕ) (b number : ℕ)
-    → pick fits ((number ≡ 0) × (tableOf after ≡ fresh b)) ((number ≡ numberOf BadBegin) × (after ≡ before))
-    → (number ≡ answerNumber (madeAnswer fits)) × pick fits ((madeAnswer fits ≡ A.Done 0) × (tableOf after ≡ fresh b)) ((madeAnswer fits ≡ A.Refused BadBegin) × (after ≡ before))
-made-by true before after b number h = (h .0, (refl, h .1))
-made-by false before after b number h = (h .0, (refl, h .1))
+    → pick fits ((number ≡ answerNumber (A.Done 0)) × (tableOf after ≡ fresh b)) ((number ≡ answerNumber (A.Refused BadBegin)) × (after ≡ before))
+    → (number ≡ answerNumber (madeAnswer fits)) × MadeBy fits before b (madeAnswer fits) after
+made-by true before after b number h = (h .0, (refl, refl, h .1))
+made-by false before after b number h = (h .0, (refl, refl, h .1))
 
 -- ---- the run
 

@@ -1,12 +1,11 @@
 -- What whatever keeps a promise leaves of the table, call by call: the verdict and the test of begin as variables.
-use mathlib.Core.Path.{_≡_, refl, ap}
+use mathlib.Core.Path.{_≡_, refl, ap, _∙_}
 use mathlib.Core.Bool.{Bool, true, false}
 use mathlib.Core.List.{List}
 use Prim.Native.Nat.{ℕ}
 use native.Mathlib.Omega.{arith}
 use lib.Dec.{T, leb, leb→le}
 use lib.ListN.{length}
-use Rattle.lists.specs.Choice.{pick}
 use Rattle.table.specs.Words.{tableOf}
 use Rattle.table.proofs.WordsOfSlots.{slots-length}
 use Rattle.counts.specs.Making.{fresh, beginFits, Made}
@@ -14,6 +13,7 @@ use Rattle.refusal.specs.declared.Answer.{Answer}
 use Rattle.refusal.specs.declared.Answer.the-variants as A
 use Rattle.refusal.specs.declared.Refusal.{Refusal}
 use Rattle.refusal.specs.declared.Refusal.the-variants.{BadBegin}
+use Rattle.refusal.proofs.Numbers.{is-done, is-refused}
 use Rattle.refusal.specs.declared.Verdict.{Verdict}
 use Rattle.refusal.specs.declared.Verdict.the-variants as W
 use Rattle.record.specs.declared.request.Request.{Request}
@@ -29,6 +29,7 @@ use Rattle.outcome.specs.Call.{Call}
 use Rattle.outcome.specs.Tape.{Tape}
 use Rattle.outcome.proofs.RunOutcomes.{sound-outcome}
 use Rattle.promises.proofs.Accepted.{act-sound}
+use Rattle.promises.proofs.Determining.{MadeBy}
 
 -- ---- making
 
@@ -43,10 +44,10 @@ pub data Making (before : List ℕ) (r : Answer) (after : List ℕ) : Type 0 whe
 making-by :
     (fits : Bool) (before : List ℕ) (b : ℕ) (r : Answer) (after : List ℕ)
     → (T fits → T (sound (fresh b)))
-    → pick fits ((r ≡ A.Done 0) × (tableOf after ≡ fresh b)) ((r ≡ A.Refused BadBegin) × (after ≡ before))
+    → MadeBy fits before b r after
     → Making before r after
-making-by true before b r after s h = made (h .0) (rw (h .1) (s tt))
-making-by false before b r after s h = refused (h .0) (h .1)
+making-by true before b r after s h = made (is-done r (h .0) ∙ ap A.Done (h .1)) (rw (h .2) (s tt))
+making-by false before b r after s h = refused (is-refused r BadBegin (h .0)) (h .2)
 
 pub making : (before : List ℕ) (b : ℕ) (r : Answer) (after : List ℕ) → Made before b r after → Making before r after
 making before b r after h = making-by (beginFits b) before b r after (fresh-sound b) h
@@ -73,7 +74,7 @@ module _ (words bytes : List ℕ) (r : Answer) (words′ bytes′ : List ℕ) wh
       → Outcome v act 0 words bytes r words′ bytes′
       → T (sound (tableOf words′))
   unfolding run
-  sound-by (W.Refused n) act s f h = rw (h .1) s
+  sound-by (W.Refused n) act s f h = rw (h .2) s
   sound-by W.Accepted act s f h = let e : tableOf words′ ≡ act (tableOf words) .table = ap (λ (w : World). w .table) (h .1) in rw e (f refl)
 
   pub call-sound : (q : Request) → T (sound (tableOf words)) → Call q words bytes r words′ bytes′ → T (sound (tableOf words′))
@@ -81,7 +82,7 @@ module _ (words bytes : List ℕ) (r : Answer) (words′ bytes′ : List ℕ) wh
 
   same-by : (v : Verdict) → Outcome v list 0 words bytes r words′ bytes′ → tableOf words′ ≡ tableOf words
   unfolding run list
-  same-by (W.Refused n) h = ap tableOf (h .1)
+  same-by (W.Refused n) h = ap tableOf (h .2)
   same-by W.Accepted h = ap (λ (w : World). w .table) (h .1)
 
   pub list-same : Call Q.List words bytes r words′ bytes′ → tableOf words′ ≡ tableOf words

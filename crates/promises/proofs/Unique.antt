@@ -10,8 +10,10 @@ use Rattle.refusal.specs.declared.Answer.{Answer}
 use Rattle.record.specs.declared.request.Request.{Request}
 use Rattle.record.specs.declared.request.Request.the-variants as Q
 use Rattle.record.specs.declared.request.Reading.{Reading}
-use Rattle.record.specs.Reading as reading
+use Rattle.record.specs.Reading.{Read}
 use Rattle.record.specs.Writing.{Wrote, wroteOf, wrote, outOf}
+use Rattle.record.proofs.ReadInNumbers.{read-of-numbers}
+use Rattle.refusal.proofs.Numbers.{same-answer}
 use Rattle.rules.specs.Sound.{sound}
 use Rattle.outcome.specs.Call.{Call, Reset}
 use Rattle.outcome.specs.Tape.{Tape}
@@ -52,17 +54,19 @@ pub run-once :
     → (stop ≡ stop′) × (refusal ≡ refusal′) × (handled ≡ handled′) × (written ≡ written′) × (rest ≡ rest′) × (words₁ ≡ words₂) × (bytes₁ ≡ bytes₂)
 run-once = run-determined
 
--- the soundness check, reading and writing: each promise is an equation for the whole result
+-- the soundness check: its promise is an equation for the answer
 pub sound-once : (words : List ℕ) (r r′ : Bool) → r ≡ sound (tableOf words) → r′ ≡ sound (tableOf words) → r ≡ r′
 sound-once words r r′ h k = h ∙ sym k
 
-pub reading-once : (tape : List ℕ) (r r′ : Reading) → r ≡ reading.read tape → r′ ≡ reading.read tape → r ≡ r′
-reading-once tape r r′ h k = h ∙ sym k
+-- reading
+pub reading-once : (tape : List ℕ) (r r′ : Reading) → Read tape r → Read tape r′ → r ≡ r′
+reading-once tape r r′ h k = read-of-numbers tape r h ∙ sym (read-of-numbers tape r′ k)
 
--- of a request's bytes or an answer's
+-- writing, of a request's bytes or an answer's: an equation for the bytes, the number and how many bytes were written
 pub writing-once :
     (bytes record-bytes bytes₁ bytes₂ : List ℕ) (pos : ℕ) (r r′ : Answer)
     → wroteOf bytes₁ r ≡ wrote (outOf bytes pos) record-bytes
     → wroteOf bytes₂ r′ ≡ wrote (outOf bytes pos) record-bytes
     → (r ≡ r′) × (bytes₁ ≡ bytes₂)
-writing-once bytes record-bytes bytes₁ bytes₂ pos r r′ h k = let e = h ∙ sym k in (ap (λ (w : Wrote). w .answer) e, ap (λ (w : Wrote). w .buf) e)
+writing-once bytes record-bytes bytes₁ bytes₂ pos r r′ h k = let e = h ∙ sym k in
+    (same-answer r r′ (ap (λ (w : Wrote). w .number) e) (ap (λ (w : Wrote). w .size) e), ap (λ (w : Wrote). w .buf) e)

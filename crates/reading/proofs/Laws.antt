@@ -17,9 +17,9 @@ use Rattle.record.specs.Reading.{bad, asked, read, lengthAt, layoutAt}
 use Rattle.record.proofs.Layouts.{layout-length}
 use Rattle.record.proofs.Read as steps
 
--- a record whose length is that of its kind's layout has the length of its kind
-pub length-known : (n m : ℕ) (y : Layout) (k : Kind) → y ≡ layoutOf m → n ≡ y .length → y .kind ≡ k → isRequest k ≡ true → n ≡ lengthOf k
-length-known n m y k s o t r =
+-- the layout of a request's kind has the length of that kind
+pub length-known : (m : ℕ) (y : Layout) (k : Kind) → y ≡ layoutOf m → y .kind ≡ k → isRequest k ≡ true → y .length ≡ lengthOf k
+length-known m y k s t r =
     let i : isRequest (layoutOf m .kind) ≡ true = cc in
     cc (layout-length m i)
 

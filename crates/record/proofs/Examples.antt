@@ -10,7 +10,7 @@ use Rattle.record.specs.declared.answer.Record.{Record}
 use Rattle.record.specs.declared.answer.Record.the-variants as A
 use Rattle.record.specs.Kinds.{layoutOf}
 use Rattle.record.specs.Records.{conflictFrom, virtualFrom, expansionFrom, nodeOf, vertexOf, requestBytes, answerBytes}
-use Rattle.record.specs.Reading.{bad, read}
+use Rattle.record.specs.Reading.{bad, read, readingNumber, readingValues, readingSize}
 use Rattle.record.specs.Writing.{bytesOf}
 
 -- ---- requests, written and read
@@ -29,6 +29,13 @@ conflict-written = refl
 conflict-read : read (conflict-bytes ++ 7 ∷ []) ≡ R.Request conflict 20
 unfolding read layoutOf
 conflict-read = refl
+
+-- in numbers: kind 1, nodes 0 and 1, touches 2 and 3, vertices 10 and 11
+conflict-told :
+    let r = read (conflict-bytes ++ 7 ∷ []) in
+    (readingNumber r ≡ 0) × (readingValues r ≡ 1 ∷ 0 ∷ 1 ∷ 2 ∷ 3 ∷ 10 ∷ 11 ∷ []) × (readingSize r ≡ 20)
+unfolding read layoutOf
+conflict-told = (refl, refl, refl)
 
 abbrev virtual : Request
 virtual = Q.VirtualConflict (virtualFrom (65535 ∷ 258 ∷ 4294967295 ∷ 16909060 ∷ []))
@@ -73,6 +80,10 @@ unknown-read = refl
 other-length-read : read (4 ∷ 0 ∷ 4 ∷ 0 ∷ 0 ∷ 0 ∷ []) ≡ bad
 unfolding read layoutOf
 other-length-read = refl
+
+-- .. each told as 12
+bad-told : (readingNumber bad ≡ 12) × (readingValues bad ≡ []) × (readingSize bad ≡ 0)
+bad-told = (refl, refl, refl)
 
 -- ---- answers
 

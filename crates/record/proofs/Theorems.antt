@@ -6,14 +6,16 @@ use Prim.Native.Nat.{ℕ, _+_, _≤_}
 use lib.ListN.{length, take, drop}
 use Rattle.record.specs.declared.answer.Record.{Record}
 use Rattle.record.specs.declared.request.Request.{Request}
+use Rattle.record.specs.declared.request.Reading.{Reading}
 use Rattle.record.specs.declared.request.Reading.the-variants as R
 use Rattle.record.specs.Kinds.{sum}
 use Rattle.record.specs.Fields.{encode, decode, AllFit, AllBytes}
 use Rattle.record.specs.Records.{requestBytes, RequestFits}
-use Rattle.record.specs.Reading.{bad, read, Bad}
+use Rattle.record.specs.Reading.{bad, read, Bad, Read}
 use Rattle.record.specs.Writing.{outOf, placed, writeAll, bytesOf}
 use Rattle.record.proofs.Codec.{decode-of-encode, encode-of-decode}
 use Rattle.record.proofs.Read.{read-size, read-back, read-so, read-fit, bad-exactly, placed-read}
+use Rattle.record.proofs.ReadInNumbers.{read-in-numbers, read-of-numbers}
 use Rattle.record.proofs.Written.{placed-parts, writeAll-room}
 
 -- fields that were encoded are decoded, whatever their widths and whatever stands after them
@@ -43,6 +45,10 @@ read-request-size = read-size
 -- "Bad: cut short, other kind, other length.", and nothing else is
 pub read-bad-exactly : (bs : List ℕ) → read bs ≡ bad ↔ Bad bs
 read-bad-exactly = bad-exactly
+
+-- the promise of reading, in numbers, says of the answer that it is what `read` finds
+pub read-promised : (bs : List ℕ) (r : Reading) → Read bs r ↔ r ≡ read bs
+read-promised bs r = (read-of-numbers bs r, read-in-numbers bs r)
 
 -- where there is room, exactly the placed bytes change
 pub placed-split : (l : List ℕ) (p : ℕ) (bs : List ℕ) → p + length bs ≤ length l → placed l p bs ≡ take p l ++ bs ++ drop (p + length bs) l

@@ -1,22 +1,23 @@
 -- What reading a tape finds. "Reading takes requests alone. Bad: cut short, other kind, other length."
 use mathlib.Core.Path.{_≡_}
 use Prim.Native.Nat.{ℕ, _+_, _<_}
-use mathlib.Core.Bool.{false}
-use mathlib.Core.List.{List}
+use mathlib.Core.Bool.{Bool, false, not, _||_}
+use mathlib.Core.List.{List, [], _∷_}
 use mathlib.Core.Logic.{_⊎_}
 use lib.ListN.{length, take, drop}
 use lib.Dec.{eqb, ltb}
 use Rattle.lists.specs.Choice.{pick}
 use Rattle.refusal.specs.declared.Refusal.the-variants.{BadRecord}
+use Rattle.refusal.specs.Refusal.{numberOf}
 use Rattle.record.specs.declared.kind.Kind.{Kind}
 use Rattle.record.specs.declared.kind.Kind.the-variants as K
 use Rattle.record.specs.declared.kind.Layout.{Layout}
 use Rattle.record.specs.declared.request.Request.the-variants as Q
 use Rattle.record.specs.declared.request.Reading.{Reading}
 use Rattle.record.specs.declared.request.Reading.the-variants as R
-use Rattle.record.specs.Kinds.{widths, isRequest, layoutOf}
+use Rattle.record.specs.Kinds.{numberOfKind, widths, isRequest, layoutOf}
 use Rattle.record.specs.Fields.{number, decode}
-use Rattle.record.specs.Records.{conflictFrom, virtualFrom, expansionFrom}
+use Rattle.record.specs.Records.{requestKind, requestFields, conflictFrom, virtualFrom, expansionFrom}
 
 -- the length that a record states, and what its kind says
 abbrev pub lengthAt : List ℕ → ℕ
@@ -66,3 +67,37 @@ pub data Bad (bs : List ℕ) : Type 0 where
   cut-short : CutShort bs → Bad bs
   other-kind : OtherKind bs → Bad bs
   other-length : OtherLength bs → Bad bs
+
+-- ---- what reading answers, in 01's numbers: the promise of the public call
+
+-- 0, or the refusal's number
+abbrev pub readingNumber : Reading → ℕ
+readingNumber (R.Request q size) = 0
+readingNumber (R.Refused n) = numberOf n
+
+-- the number of the request's kind, and its fields
+abbrev pub readingValues : Reading → List ℕ
+readingValues (R.Request q size) = numberOfKind (requestKind q) ∷ requestFields q
+readingValues (R.Refused n) = []
+
+-- the bytes that its record fills
+abbrev pub readingSize : Reading → ℕ
+readingSize (R.Request q size) = size
+readingSize (R.Refused n) = 0
+
+-- cut short, of an other length, of an other kind
+abbrev pub isBad : List ℕ → Bool
+isBad bs =
+    ltb (length bs) 4
+    || ltb (length bs) (2 + lengthAt bs)
+    || not (eqb (lengthAt bs) (layoutAt bs .length))
+    || not (isRequest (layoutAt bs .kind))
+
+-- refused with 12 where the record is bad; else 0, and the request that stands first
+abbrev pub Read : List ℕ → Reading → Type 0
+Read bs r =
+    pick (isBad bs)
+    ((readingNumber r ≡ numberOf BadRecord) × (readingValues r ≡ []) × (readingSize r ≡ 0))
+    ((readingNumber r ≡ 0)
+    × (readingValues r ≡ numberOfKind (layoutAt bs .kind) ∷ decode (widths (layoutAt bs .kind)) (drop 4 bs))
+    × (readingSize r ≡ 2 + lengthAt bs))

@@ -8,7 +8,7 @@ use Rattle.lists.specs.Choice.{pick}
 use Rattle.lists.specs.Stores.{stores}
 use Rattle.refusal.specs.declared.Refusal.the-variants.{NoRecordRoom}
 use Rattle.refusal.specs.declared.Answer.{Answer}
-use Rattle.refusal.specs.declared.Answer.the-variants.{Done, Refused}
+use Rattle.refusal.specs.Refusal.{numberOf, answerNumber, answerWritten}
 use Rattle.record.specs.declared.answer.Record.{Record}
 use Rattle.record.specs.Records.{answerBytes}
 
@@ -42,17 +42,18 @@ unfoldable pub bytesOf : List Record → List ℕ
 bytesOf [] = []
 bytesOf (r ∷ rs) = answerBytes r ++ bytesOf rs
 
--- the lent bytes after a call, and what it answers
+-- the lent bytes after a call, and what it answers: 0 or the refusal's number, and how many bytes were written
 pub record Wrote : Type 0 where
   pub buf : List ℕ
-  pub answer : Answer
+  pub number : ℕ
+  pub size : ℕ
 
 abbrev pub wroteOf : List ℕ → Answer → Wrote
-wroteOf l a = record { buf = l; answer = a }
+wroteOf l a = record { buf = l; number = answerNumber a; size = answerWritten a }
 
 -- one record written by a call: refused exactly where it lacks room, and then every byte is as it was
 unfoldable pub wrote : Out → List ℕ → Wrote
 wrote o bs =
     pick (lacksRoom o bs)
-    (wroteOf (o .buf) (Refused NoRecordRoom))
-    (wroteOf (placed (o .buf) (o .pos) bs) (Done (length bs)))
+    (record { buf = o .buf; number = numberOf NoRecordRoom; size = 0 })
+    (record { buf = placed (o .buf) (o .pos) bs; number = 0; size = length bs })

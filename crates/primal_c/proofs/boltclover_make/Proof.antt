@@ -7,4 +7,4 @@ pub boltclover-make-spec : {M : Type 1} → statement M
 boltclover-make-spec = tie.close (tie.spec
     (λ c κs. search needs)
     (λ c κs. search needs)
-    (λ c. told-made _ _ (c .before .before .before .args .begin) _ _ (c .before .make .ensures) (c .answer-number .ensures)))
+    (λ c. told-made _ _ (c .before .before .before .args .begin) (c .before .make .result) _ (c .before .make .ensures) (c .answer-number .ensures)))

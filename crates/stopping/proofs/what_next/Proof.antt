@@ -1,3 +1,4 @@
+use native.Mathlib.Omega.{arith}
 use borrow.Author.Needs.{needs}
 use Rattle.stopping.proofs.Steps.{empty, used, full, one, bad}
 use Rattle.stopping.proofs.what_next.Statement.{statement}
@@ -9,7 +10,7 @@ what-next-spec =
     (tie.spec
     (λ c. empty _ _ _ (c .if1 .taken))
     (λ c. used _ _ _ (c .before .if1 .left) (c .if2 .taken))
-    (λ c. full _ _ _ (c .before .before .if1 .left) (c .before .if2 .left) (c .if3 .taken))
+    (λ c. full _ _ _ (c .before .before .if1 .left) (c .before .if2 .left) (omega (arith, c .if3 .taken)))
     (λ c κs. search needs)
     (λ c. search needs)
     (λ c. search needs)

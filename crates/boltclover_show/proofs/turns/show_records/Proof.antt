@@ -1,5 +1,6 @@
 use mathlib.Core.Path.{sym, _∙_}
 use Rattle.record.proofs.Read.{read-size}
+use Rattle.record.proofs.ReadInNumbers.{read-of-numbers}
 use Rattle.boltclover_show.proofs.Laws.{shorter}
 use borrow.Author.Needs.{needs}
 use lib.ListN.{length}
@@ -25,11 +26,11 @@ show-records-spec =
     (λ c. search needs)
     (λ c κs. search needs)
     (λ c. search needs)
-    (λ c. read-size _ _ _ (sym (c .before .before .before .before .before .before .read-record .ensures) ∙ c .before .before .before .before .request .given .1))
-    (λ c. read-size _ _ _ (sym (c .before .before .before .before .before .before .read-record .ensures) ∙ c .before .before .before .before .request .given .1))
+    (λ c. read-size _ _ _ (sym (read-of-numbers (c .before .before .before .before .before .before .before .before .before .loop .rest .now) _ (c .before .before .before .before .before .before .read-record .ensures)) ∙ c .before .before .before .before .request .given .1))
+    (λ c. read-size _ _ _ (sym (read-of-numbers (c .before .before .before .before .before .before .before .before .before .loop .rest .now) _ (c .before .before .before .before .before .before .read-record .ensures)) ∙ c .before .before .before .before .request .given .1))
     (λ c. search needs)
     (λ c. search needs)
-    (λ c. shorter (c .before .before .before .before .before .before .before .before .before .before .loop .rest .now) _ _ _ (c .before .before .before .before .before .before .before .read-record .ensures) (c .before .before .before .before .before .request .given .1))
+    (λ c. shorter (c .before .before .before .before .before .before .before .before .before .before .loop .rest .now) _ _ _ (read-of-numbers _ _ (c .before .before .before .before .before .before .before .read-record .ensures)) (c .before .before .before .before .before .request .given .1))
     (λ c. search needs)
     (λ c. search needs)
     (λ c κs. search needs)
