@@ -1,0 +1,5 @@
+pub mod RowsJoined
+pub mod WhyStopped
+pub mod OneTurn
+pub mod AllTurns
+pub mod InTurns
