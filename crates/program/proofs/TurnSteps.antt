@@ -3,9 +3,7 @@ use mathlib.Core.Path.{_≡_, refl, sym, ap, _∙_}
 use mathlib.Core.List.{List}
 use Prim.Native.Nat.{ℕ, _-_, _≤_}
 use native.Mathlib.Omega.{arith}
-use native.Mathlib.Nat.{le-refl}
-use lib.ListN.{length, take, drop, length-drop}
-use lib.Seq.{take-all}
+use lib.ListN.{length, drop}
 use Rattle.refusal.specs.declared.Refusal.the-variants.{BadRecord}
 use Rattle.refusal.specs.Refusal.{numberOf}
 use Rattle.record.specs.declared.answer.Record.the-variants as R
@@ -57,10 +55,6 @@ end-written o p e n f g h = rw f (h ∙ rw g)
 
 pub whole-tape : (tape : List ℕ) (unread : ℕ) → length tape ≤ unread → tape ≡ drop (length tape - unread) tape
 whole-tape tape unread h = let e : length tape - unread ≡ 0 = omega arith in rw e
-
--- what `&l[n..]` is
-pub tail : (l : List ℕ) (n : ℕ) → take (length l - n) (drop n l) ≡ drop n l
-tail l n = take-all (length l - n) (drop n l) (rw length-drop (le-refl (length l - n)))
 
 -- ---- the turn
 

@@ -11,10 +11,11 @@ ghost use Rattle.program.specs.Program.{usualBegin, mostBytes, endOf, la
 
 // 01: "The program has begin 128, reads at most 65,536 bytes".
 const BEGIN: u16 = 128;
+
 const MOST_BYTES: usize = 65536;
 
 // A record has four bytes or more, so no tape that is read has more records.
-const ALLOWANCE: u32 = 65536;
+const ALLOWANCE: u32 = MOST_BYTES as u32;
 
 pub fn begin() -> u16
     ensures { λ r. ⌜ r ≡ usualBegin ⌝ }

@@ -1,18 +1,20 @@
 -- What turns one after another leave: one turn more before turns of which it is known.
 use mathlib.Core.Path.{_≡_, refl, sym, ap, _∙_}
 use mathlib.Core.Bool.{Bool, true, false}
-use mathlib.Core.List.{List, [], _++_, append-assoc, append-nil}
+use mathlib.Core.List.{List, [], _∷_, _++_, append-assoc, append-nil}
 use mathlib.Core.Logic.{inl}
 use Prim.Native.Nat.{ℕ, zero, suc, _+_, _-_, _≤_}
 use native.Mathlib.Omega.{arith}
 use lib.Dec.{T}
-use lib.ListN.{length}
+use lib.ListN.{length, drop}
+use lib.Seq.{drop-append-seam}
 use Rattle.lists.specs.Choice.{pick}
 use Rattle.table.specs.Words.{tableOf}
 use Rattle.counts.specs.Making.{fresh, beginFits, Made}
 use Rattle.refusal.specs.declared.Answer.the-variants as A
 use Rattle.refusal.specs.declared.Refusal.the-variants.{BadRecord, BadBegin}
 use Rattle.refusal.specs.Refusal.{numberOf}
+use Rattle.record.specs.declared.request.Request.{Request}
 use Rattle.record.specs.declared.answer.Record.the-variants as R
 use Rattle.record.specs.Fields.{AllBytes}
 use Rattle.record.specs.Records.{answerBytes}
@@ -21,12 +23,15 @@ use Rattle.record.specs.Writing.{bytesOf}
 use Rattle.record.proofs.Theorems.{read-bad-exactly}
 use Rattle.rules.specs.Sound.{sound}
 use Rattle.rules.specs.Run.{Between}
-use Rattle.promises.specs.InARow.{requestsOf, inARow}
+use Rattle.promises.specs.InARow.{requestsOf, tapeOf, inARow}
+use Rattle.promises.proofs.SoundAfter.{made-is-sound}
+use Rattle.promises.proofs.TapeEnd.{before-rest}
 use Rattle.program.specs.declared.TurnEnd.{TurnEnd}
 use Rattle.program.specs.declared.TurnEnd.the-variants.{TapeRead, GoesOn, BadTape, NotSound}
 use Rattle.program.specs.Program.{lastRecords}
-use Rattle.program_turns.specs.Turns.{Turns, last, next, allWritten, allHandled, howMany, lastEnd, lastWords, lastRest, RestBy, allRequests}
-use Rattle.program_turns.proofs.RowsJoined.{requests-joined, between-joined, joined-table, joined-bytes, four-each}
+use Rattle.program_turns.specs.Turns.{Turns, last, next, allWritten, allHandled, howMany, lastEnd, lastWords, lastRest, RestBy}
+use Rattle.program_turns.specs.Written.{allRequests, endOfTape, programWrites}
+use Rattle.program_turns.proofs.RowsJoined.{requests-joined, between-joined, joined-table, joined-bytes, bytes-of-joined, four-each}
 use Rattle.program_turns.proofs.OneTurn.{RestOr, Left, turn-left}
 
 -- so many turns on these words and this tape left these words, having handled so many records; how they ended, the rest, what they wrote
@@ -123,6 +128,33 @@ all-read n tape rest end a b h =
     let e : length tape ≡ n + m = omega (arith, four-each n tape rest a b) in
     sym (ap (λ (k : ℕ). requestsOf k tape) e ∙ requests-joined n m tape rest b ∙ rw (none-there m rest (bad-rest end rest h), append-nil))
 
+-- ---- in one formula
+
+same-behind : (end : TurnEnd) (rest : List ℕ) → RestBy end rest → bytesOf (lastRecords end) ≡ bytesOf (endOfTape rest)
+same-behind TapeRead rest h = rw h
+same-behind BadTape [] h = absurd (h .0 refl)
+same-behind BadTape (b ∷ rest) h = refl
+same-behind GoesOn rest h = absurd h
+same-behind NotSound rest h = absurd h
+
+pub in-one :
+    (begin n : ℕ) (tape rest wrote : List ℕ) (end : TurnEnd)
+    → AllBytes tape
+    → Between n tape rest
+    → RestBy end rest
+    → wrote ≡ bytesOf (inARow (requestsOf n tape) (fresh begin) .said) ++ bytesOf (lastRecords end)
+    → wrote ≡ programWrites begin tape
+unfolding programWrites
+in-one begin n tape rest wrote end a b h e =
+    let qs = allRequests tape in
+    let all = all-read n tape rest end a b h in
+    let parts : tape ≡ tapeOf qs ++ rest = before-rest n tape rest a b ∙ ap (λ (rs : List Request). tapeOf rs ++ rest) all in
+    let behind : drop (length (tapeOf qs)) tape ≡ rest = ap (drop (length (tapeOf qs))) parts ∙ drop-append-seam (tapeOf qs) rest in
+    e
+    ∙ ap (λ (rs : List Request). bytesOf (inARow rs (fresh begin) .said) ++ bytesOf (lastRecords end)) all
+    ∙ ap (λ (bs : List ℕ). bytesOf (inARow qs (fresh begin) .said) ++ bs) (same-behind end rest h ∙ ap (λ (l : List ℕ). bytesOf (endOfTape l)) (sym behind))
+    ∙ sym (bytes-of-joined (inARow qs (fresh begin) .said) (endOfTape (drop (length (tapeOf qs)) tape)))
+
 -- ---- a table that was made
 
 made-by :
@@ -132,5 +164,23 @@ made-by :
 made-by true before b n after h = h .1
 made-by false before b n after h = let e = h .0 in let z : _≡_ {A = ℕ} 0 1 = cc in absurd (omega arith)
 
-pub made-fresh : (before : List ℕ) (b n : ℕ) (after : List ℕ) → Made before b (A.Done n) after → tableOf after ≡ fresh b
+made-fresh : (before : List ℕ) (b n : ℕ) (after : List ℕ) → Made before b (A.Done n) after → tableOf after ≡ fresh b
 made-fresh before b n after h = made-by (beginFits b) before b n after h
+
+-- turns on it: what they leave, on the table that was made
+pub record FreshLeft (begin : ℕ) (tape words′ : List ℕ) (handled turns : ℕ) (end : TurnEnd) (rest wrote : List ℕ) : Type 0 where
+  pub between : Between handled tape rest
+  pub table : tableOf words′ ≡ inARow (requestsOf handled tape) (fresh begin) .table
+  pub bytes : wrote ≡ bytesOf (inARow (requestsOf handled tape) (fresh begin) .said) ++ bytesOf (lastRecords end)
+  pub over : RestBy end rest
+  pub few : turns ≤ handled + 1
+
+pub fresh-left :
+    (begin : ℕ) (before words tape : List ℕ)
+    → Made before begin (A.Done 0) words
+    → (ts : Turns words tape)
+    → FreshLeft begin tape (lastWords ts) (allHandled ts) (howMany ts) (lastEnd ts) (lastRest ts) (allWritten ts)
+fresh-left begin before words tape m ts =
+    let h = turns-left ts (made-is-sound before begin 0 words m) in
+    let e = made-fresh before begin 0 words m in
+    record { between = h .between; table = rw e at (h .table); bytes = rw e at (h .bytes); over = h .over; few = h .few }

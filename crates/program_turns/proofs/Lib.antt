@@ -3,3 +3,5 @@ pub mod WhyStopped
 pub mod OneTurn
 pub mod AllTurns
 pub mod InTurns
+pub mod Printed
+pub mod TurnUnique

@@ -1,24 +1,21 @@
 -- What one turn on a sound table leaves, whatever keeps its promise.
 use mathlib.Core.Path.{_≡_, refl, sym, ap, _∙_}
-use mathlib.Core.Bool.{Bool, true}
-use mathlib.Core.List.{List, [], _++_}
-use Prim.Native.Nat.{ℕ, _+_, _-_, _≤_, _<_}
+use mathlib.Core.List.{List, _++_}
+use Prim.Native.Nat.{ℕ, _-_, _≤_, _<_}
 use native.Mathlib.Nat.{zero-add}
 use native.Mathlib.Omega.{arith}
 use lib.Dec.{T}
 use lib.ListN.{length, take, drop}
 use lib.Seq.{take-at}
-use Rattle.lists.specs.Choice.{pick}
 use Rattle.table.specs.Words.{tableOf}
 use Rattle.table.proofs.WordsOfSlots.{slots-length}
 use Rattle.record.specs.declared.answer.Record.{Record}
-use Rattle.record.specs.declared.answer.Record.the-variants as R
 use Rattle.record.specs.Records.{answerBytes}
 use Rattle.record.specs.Writing.{Out, outOf, writeAll, bytesOf}
 use Rattle.record.proofs.Written.{writeAll-append, writeAll-room, length-placed}
 use Rattle.rules.specs.Act.{World, worldOf, run}
 use Rattle.rules.specs.Sound.{sound}
-use Rattle.rules.specs.Run.{Stop, tapeEmpty, allowanceUsed, outputFull, badRecord, Progress, Ended, room, Ran, unsound, ran, runFrom, began, runTape, Between}
+use Rattle.rules.specs.Run.{Stop, tapeEmpty, allowanceUsed, outputFull, badRecord, Progress, Ended, room, Ran, ran, runFrom, began, runTape, Between}
 use Rattle.rules.proofs.RunCounts.{run-counts}
 use Rattle.sound_facts.proofs.Reflect.{test-true}
 use Rattle.kept.proofs.Wholes.{to-whole}
@@ -31,7 +28,7 @@ use Rattle.promises.proofs.RunInARow.{run-in-row}
 use Rattle.program.specs.declared.TurnEnd.{TurnEnd}
 use Rattle.program.specs.declared.TurnEnd.the-variants.{TapeRead, GoesOn, BadTape, NotSound}
 use Rattle.program.specs.declared.Turn.{Turn}
-use Rattle.program.specs.Program.{allowance, endOf, lastRecords, closed, TurnOf, TakesTurn}
+use Rattle.program.specs.Program.{allowance, endOf, lastRecords, closed, TurnOf}
 use Rattle.program_turns.specs.Turns.{OneTurn, wrote, restAfter, RestBy}
 use Rattle.program_turns.proofs.RowsJoined.{bytes-of-joined}
 use Rattle.program_turns.proofs.WhyStopped.{StoppedFor, why-stopped, first-handled}
@@ -170,12 +167,9 @@ left-by words tape bytes words′ bytes′ r e k h =
     (left-there words tape bytes words′ bytes′ (r .written) e k (h .3))
 
 -- on a sound table the run is not refused
-not-refused : (b : Bool) (e : Ended) → b ≡ true → pick b (ran e) unsound ≡ ran e
-not-refused b e h = rw h
-
 runs : (k : ℕ) (w : World) (tape : List ℕ) → T (sound (w .table)) → runTape k w tape ≡ ran (runFrom k (began w tape))
 unfolding runTape
-runs k w tape s = not-refused (sound (w .table)) (runFrom k (began w tape)) (test-true (sound (w .table)) s)
+runs k w tape s = rw (test-true (sound (w .table)) s)
 
 turn-by :
     (words tape bytes words′ bytes′ : List ℕ) (r : Turn) (x : Ran) (e : Ended)

@@ -4,14 +4,14 @@ use mathlib.Core.List.{List, [], _∷_, _++_, append-assoc}
 use Prim.Native.Nat.{ℕ, zero, suc, _+_, _*_, _≤_}
 use native.Mathlib.Nat.{zero-add, suc-add}
 use native.Mathlib.Omega.{arith}
-use lib.ListN.{length, take, drop, length-drop}
+use lib.ListN.{length, drop, length-drop}
 use lib.Seq.{length-take-le}
 use Rattle.table.specs.Table.{Table}
 use Rattle.record.specs.declared.request.Request.{Request}
 use Rattle.record.specs.declared.request.Reading.the-variants as G
 use Rattle.record.specs.declared.answer.Record.{Record}
 use Rattle.record.specs.Fields.{AllBytes}
-use Rattle.record.specs.Records.{requestBytes, answerBytes}
+use Rattle.record.specs.Records.{requestBytes}
 use Rattle.record.specs.Reading as reading
 use Rattle.record.specs.Writing.{bytesOf}
 use Rattle.record.proofs.Codec.{bytes-drop}

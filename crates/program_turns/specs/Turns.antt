@@ -4,9 +4,7 @@ use mathlib.Core.Path.{_≡_}
 use mathlib.Core.List.{List, [], _++_}
 use Prim.Native.Nat.{ℕ, suc, _+_, _-_, _≤_}
 use lib.ListN.{length, take, drop}
-use Rattle.record.specs.declared.request.Request.{Request}
 use Rattle.record.specs.Reading.{Bad}
-use Rattle.promises.specs.InARow.{requestsOf}
 use Rattle.program.specs.declared.TurnEnd.{TurnEnd}
 use Rattle.program.specs.declared.TurnEnd.the-variants.{TapeRead, GoesOn, BadTape, NotSound}
 use Rattle.program.specs.declared.Turn.{Turn}
@@ -67,7 +65,3 @@ RestBy TapeRead rest = rest ≡ []
 RestBy BadTape rest = (rest ≡ [] → ⊥) × Bad rest
 RestBy GoesOn rest = ⊥
 RestBy NotSound rest = ⊥
-
--- the requests of a tape, as far as it is good: they are fewer than its bytes
-abbrev pub allRequests : List ℕ → List Request
-allRequests tape = requestsOf (length tape) tape

@@ -2,7 +2,8 @@ use native.Mathlib.Omega.{arith}
 use borrow.Author.Needs.{needs}
 use Prim.Native.Nat.{_-_}
 use lib.ListN.{length}
-use Rattle.program.proofs.TurnSteps.{whole-tape, tail}
+use Rattle.primal.proofs.Loop.{tail}
+use Rattle.program.proofs.TurnSteps.{whole-tape}
 use Rattle.program.proofs.rest.Statement.{statement}
 use Rattle.program.proofs.rest.Tie as tie
 
