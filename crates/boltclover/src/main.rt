@@ -1,18 +1,12 @@
 // The program of the rules: runs the tape on standard input, at most 65,536 bytes, on a fresh table of begin 128, or of the first
 // argument, and writes the answers to standard output. A tape that goes bad ends with an end record 12. A tape that is bad, or
-// longer, is named on standard error too.
+// longer, is named on standard error too. What is done with a tape is said of the crate `program`; here is its input and output.
 use command_line::Ending;
 use libc::STDIN_FILENO;
-use record::Record;
+use program::Turn;
+use program::TurnEnd;
 use refusal::Answer;
 use table::Table;
-
-fn write_bad_record() -> bool {
-    let mut space = [0u8; 6];
-    let out: &mut [u8] = &mut space;
-    primal::write_answer(out, 0, Record::End(12));
-    command_line::write_out(out)
-}
 
 fn complain_of_record(at: usize, rest: &[u8]) {
     let mut space = io::buffer();
@@ -21,69 +15,53 @@ fn complain_of_record(at: usize, rest: &[u8]) {
     command_line::complain_first(line, n);
 }
 
-// The run of one turn, with fresh room: how it ended, and the bytes left unread.
-struct Turn {
-    stop: u16,
-    left: usize,
-    is_written: bool,
-}
-
-fn run_once(t: &mut Table, tape: &[u8]) -> Turn {
-    let mut space = io::large_buffer();
-    let out: &mut [u8] = &mut space;
-    let mut stop: u16 = 0;
-    let mut refusal: u16 = 0;
-    let mut handled: u32 = 0;
-    let mut written: usize = 0;
-    let rest = primal::run(
-        t,
-        tape,
-        out,
-        65536,
-        &mut stop,
-        &mut refusal,
-        &mut handled,
-        &mut written,
-    );
-    let left = rest.len();
-    Turn {
-        stop: stop,
-        left: left,
-        is_written: command_line::write_first(out, written),
+fn end_bad_tape(tape: &[u8], unread: usize) -> Ending {
+    if unread <= tape.len() {
+        complain_of_record(tape.len() - unread, program::rest(tape, unread));
     }
-}
-
-fn end_bad_tape(tape: &[u8], at: usize) -> Ending {
-    if at <= tape.len() {
-        complain_of_record(at, &tape[at..]);
-    }
-    write_bad_record();
     Ending::Badly
 }
 
-// A run that stops for room or for its allowance goes on with fresh room. Each handles at least one record of four bytes, so no
-// tape uses up the turns.
+// What follows a turn: another, with so many bytes left unread, or the end.
+enum Next {
+    Turn(usize),
+    End(Ending),
+}
+
+fn what_follows(turn: Turn, tape: &[u8]) -> Next {
+    let end = turn.end;
+    match end {
+        TurnEnd::TapeRead => Next::End(Ending::Well),
+        TurnEnd::GoesOn => Next::Turn(turn.unread),
+        TurnEnd::BadTape => Next::End(end_bad_tape(tape, turn.unread)),
+        TurnEnd::NotSound => Next::End(Ending::Badly),
+    }
+}
+
+// One turn, with fresh room.
+fn answer_once(t: &mut Table, tape: &[u8], unread: usize) -> Next {
+    let mut space = io::large_buffer();
+    let out: &mut [u8] = &mut space;
+    let turn = program::take_turn(t, program::rest(tape, unread), out);
+    let next = what_follows(turn, tape);
+    if !command_line::write_first(out, turn.written) {
+        return Next::End(Ending::Badly);
+    }
+    next
+}
+
+// Each turn that goes on handles at least one record of four bytes, so no tape uses up the turns.
 fn answer(t: &mut Table, tape: &[u8]) -> Ending {
-    let mut left = tape.len();
-    let mut turns: u32 = 65536;
+    let mut unread = tape.len();
+    let mut turns = program::most_bytes();
     while 0 < turns {
-        if tape.len() < left {
-            return Ending::Badly;
-        }
-        let start = tape.len() - left;
-        let turn = run_once(t, &tape[start..]);
-        if !turn.is_written {
-            return Ending::Badly;
-        }
-        left = turn.left;
-        if turn.stop == 0 {
-            return Ending::Well;
-        }
-        if turn.stop == 3 {
-            if tape.len() < left {
-                return Ending::Badly;
+        match answer_once(t, tape, unread) {
+            Next::Turn(left) => {
+                unread = left;
             }
-            return end_bad_tape(tape, tape.len() - left);
+            Next::End(ending) => {
+                return ending;
+            }
         }
         turns -= 1;
     }
@@ -104,7 +82,7 @@ fn end_cut_tape() -> Ending {
 
 fn answer_tape(t: &mut Table, tape: &[u8]) -> Ending {
     let ending = answer(t, tape);
-    if tape.len() < 65536 {
+    if tape.len() < program::most_bytes() {
         return ending;
     }
     if is_longer() {
@@ -117,7 +95,7 @@ fn serve() -> Ending {
     let mut tape = io::large_buffer();
     let n = io::read_full(STDIN_FILENO, &mut tape);
     let mut table = [0u16; 2819];
-    match primal::make(&mut table, command_line::begin()) {
+    match primal::make(&mut table, command_line::begin(program::begin())) {
         Answer::Done(_) => answer_tape(&mut table, &tape[..n]),
         Answer::Refused(_) => command_line::end_bad_begin(),
     }

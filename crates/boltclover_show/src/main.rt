@@ -19,7 +19,7 @@ fn show(t: &mut Table) -> Ending {
 
 fn show_from_begin() -> Ending {
     let mut table = [0u16; 2819];
-    match primal::make(&mut table, command_line::begin()) {
+    match primal::make(&mut table, command_line::begin(program::begin())) {
         Answer::Done(_) => show(&mut table),
         Answer::Refused(_) => command_line::end_bad_begin(),
     }

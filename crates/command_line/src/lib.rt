@@ -27,10 +27,10 @@ pub fn end(ending: Ending) {
     ;
 }
 
-// begin: the first argument, 128 where there is none, 0 where it is no number up to 256.
-pub fn begin() -> u16 {
+// begin: the first argument, the usual one where there is none, 0 where it is no number up to 256.
+pub fn begin(usual: u16) -> u16 {
     if os::arg_count() < 2 {
-        return 128;
+        return usual;
     }
     let mut word = io::buffer();
     let n = os::arg(1, &mut word);

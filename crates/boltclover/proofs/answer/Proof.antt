@@ -3,10 +3,10 @@ use Rattle.boltclover.proofs.answer.Statement.{statement}
 use Rattle.boltclover.proofs.answer.Tie as tie
 
 abbrev Inv-loop : tie.InvT-loop
-Inv-loop t₀ tape left₀ turns₀ t left turns = Unit {0}
+Inv-loop t₀ tape unread₀ turns₀ t unread turns = Unit {0}
 
 abbrev μ-loop : tie.MeasureT-loop
-μ-loop t₀ tape left₀ turns₀ t left turns = turns
+μ-loop t₀ tape unread₀ turns₀ t unread turns = turns
 
 pub answer-spec : {M : Type 1} → statement M
 answer-spec =
@@ -14,18 +14,11 @@ answer-spec =
     (tie.spec
     Inv-loop
     μ-loop
-    (λ c. search needs)
-    (λ c. search needs)
-    (λ c. search needs)
-    (λ c. search needs)
-    (λ c. search needs)
+    (λ c κs. search needs)
     (λ c. search needs)
     (λ c κs. search needs)
     (λ c. search needs)
     (λ c. search needs)
-    (λ c. search needs)
-    (λ c. search needs)
-    (λ c κs. search needs)
     (λ c. search needs)
     (λ c. search needs)
     (λ c. search needs)

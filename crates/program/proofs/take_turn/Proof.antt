@@ -1,0 +1,19 @@
+use native.Mathlib.Omega.{arith}
+use borrow.Author.Needs.{needs}
+use Rattle.program.proofs.TurnSteps.{refused, taken}
+use Rattle.program.proofs.take_turn.Statement.{statement}
+use Rattle.program.proofs.take_turn.Tie as tie
+
+pub take-turn-spec : {M : Type 1} → statement M
+take-turn-spec =
+    tie.close
+    (tie.spec
+    (λ c κs. search needs)
+    (λ c. search needs)
+    (λ c. refused _ _ _ _ _ _ _ _ _ _ (c .before .before .before .run .ensures) (c .if1 .taken))
+    (λ c κs. search needs)
+    (λ c κs. search needs)
+    (λ c. search needs)
+    (λ c.
+    let r = c .before .before .before .before in
+    taken _ _ _ _ _ _ _ _ _ _ _ _ _ (r .before .before .before .before .run .ensures) (omega arith) (r .end-of .ensures) (c .before .before .close .ensures)))
