@@ -6,8 +6,7 @@ use native.Mathlib.Omega.{arith}
 use lib.Dec.{T}
 use lib.ListN.{length}
 use borrow.Author.Tests.{ltb-false}
-use Rattle.table.specs.Table.{Table}
-use Rattle.table.proofs.Laws.{Full}
+use Rattle.table.specs.Table.{Table, Full}
 use Rattle.refusal.specs.declared.Verdict.{Verdict}
 use Rattle.refusal.specs.declared.Verdict.the-variants as W
 use Rattle.record.specs.declared.request.Request.{Request}
@@ -17,9 +16,9 @@ use Rattle.rules.specs.Act.{skip}
 use Rattle.rules.specs.Sound.{sound}
 use Rattle.rules.specs.Refusals.{conflictChecks, virtualChecks, expansionChecks}
 use Rattle.rules.specs.Calls.{actOf, actBy, verdict, answered}
+use Rattle.kept.specs.RuleFacts.{Whole}
 use Rattle.kept.proofs.Wholes.{to-whole}
 use Rattle.commands.proofs.ExpansionCommands.{expansion-commands}
-use Rattle.kept.proofs.Renewing.{Whole}
 use Rattle.rules.specs.Commands.{givesCommands, AllCommands}
 use Rattle.commands.proofs.CommandRecords.{commands-size}
 use Rattle.commands.proofs.CommandsAlone.{conflict-only, virtual-only, expansion-only}

@@ -19,10 +19,10 @@ use Rattle.sound_facts.specs.Chain.{Chain}
 use Rattle.rules.specs.Matching.{temporaryMatch, augmentSubtree, augmentWithin, augmentWholeTree}
 use Rattle.sound_facts.proofs.Reflect.{same-or-not}
 use Rattle.sound_facts.proofs.Past.{outer-below}
+use Rattle.kept.specs.RuleFacts.{Whole, Below}
 use Rattle.kept.proofs.WaysUp.{upward-chain, upward-short}
 use Rattle.kept.proofs.Frames.{some-outer}
-use Rattle.kept.proofs.Renewing.{Whole}
-use Rattle.kept.proofs.Below.{Below, top-not-below, not-below-self, tied-most}
+use Rattle.kept.proofs.Below.{top-not-below, not-below-self, tied-most}
 use Rattle.kept.proofs.Cleared.{Task}
 use Rattle.kept.proofs.Trimming.{Aside, Trimmed, subtree-rule, trimmed, trimmed-way}
 use Rattle.kept.proofs.Augmented.{Augmented, Stem, stem, a-has-child}

@@ -12,8 +12,7 @@ use Prim.Native.Nat.{ℕ, _+_, _-_, _≤_}
 use native.Mathlib.Omega.{arith}
 use lib.Dec.{T}
 use lib.ListN.{length, take, drop}
-use Rattle.table.specs.Table.{Table}
-use Rattle.table.proofs.Laws.{Full}
+use Rattle.table.specs.Table.{Table, Full}
 use Rattle.refusal.specs.declared.Refusal.the-variants.{NoCommandRoom, NoListingRoom}
 use Rattle.refusal.specs.declared.Verdict.the-variants as W
 use Rattle.record.specs.declared.request.Conflict.{Conflict}

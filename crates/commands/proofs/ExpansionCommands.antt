@@ -23,7 +23,7 @@ use Rattle.rules.specs.Expansion.{speedBy, attach, ringOpened, expandBlossom, e
 use Rattle.rules.specs.Calls.{verdict}
 use Rattle.sound_facts.proofs.Pigeonhole.{pigeonhole}
 use Rattle.sound_facts.proofs.Past.{outer-below}
-use Rattle.kept.proofs.Renewing.{Whole}
+use Rattle.kept.specs.RuleFacts.{Whole}
 use Rattle.kept.proofs.RingLoops.{twoByTwo, hungDown, hungUp, not-odd, half-less}
 use Rattle.kept.proofs.RingCut.{CutRing}
 use Rattle.kept.proofs.RingTaken.{even-after}

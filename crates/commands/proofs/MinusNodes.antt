@@ -21,9 +21,9 @@ use Rattle.sound_facts.proofs.Members.{in-append→, →nodup-append}
 use Rattle.sound_facts.proofs.Pigeonhole.{pigeonhole}
 use Rattle.sound_facts.proofs.Past.{outer-below}
 use Rattle.sound_facts.proofs.ChildLaws.{first-child, child-of-shrink, shrink-is-minus}
+use Rattle.kept.specs.RuleFacts.{Whole}
 use Rattle.kept.proofs.WaysUp.{root-parentless, root-outer}
 use Rattle.kept.proofs.Frames.{some-outer}
-use Rattle.kept.proofs.Renewing.{Whole}
 
 abbrev pub shrinks : Table → ℕ → Bool
 shrinks t n = isShrink (at t n .state)

@@ -12,9 +12,9 @@ use Rattle.rules.specs.Trees.{loaded, seen}
 use Rattle.rules.specs.Matching.{temporaryMatchVirtual}
 use Rattle.rules.specs.Conflict.{conflictLink, resolved, conflict, freed, virtualConflict}
 use Rattle.rules.specs.Calls.{verdict}
+use Rattle.kept.specs.RuleFacts.{Whole}
 use Rattle.kept.proofs.AcceptedRequests.{acceptable, acceptable-virtual}
 use Rattle.kept.proofs.Accepting.{seen-same}
-use Rattle.kept.proofs.Renewing.{Whole}
 use Rattle.kept.proofs.Loading.{load-does}
 use Rattle.commands.proofs.SubtreeCommands.{commands}
 use Rattle.commands.proofs.RowCommands.{resolved-commands, freed-commands}

@@ -19,9 +19,9 @@ use Rattle.rules.specs.Matching.{temporaryMatch, temporaryMatchVirtual, augment
 use Rattle.rules.specs.Blossom.{lacksBlossomSlot, createBlossom}
 use Rattle.rules.specs.Conflict.{growTree, hangPair, blossomInTree, treesMeet, rowOf, resolved, freed}
 use Rattle.sound_facts.proofs.Reflect.{tests, test-case, test-true, test-false, not↔}
+use Rattle.kept.specs.RuleFacts.{Whole}
 use Rattle.kept.proofs.WaysUp.{sameTree↔}
 use Rattle.kept.proofs.Frames.{some-outer}
-use Rattle.kept.proofs.Renewing.{Whole}
 use Rattle.kept.proofs.Cleared.{counts-then}
 use Rattle.kept.proofs.Trimming.{Aside, counts-back}
 use Rattle.kept.proofs.Augmented.{Augmented}

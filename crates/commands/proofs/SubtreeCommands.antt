@@ -10,8 +10,8 @@ use lib.ListN.{length, length-append}
 use Rattle.slot.specs.declared.state.State.the-variants as S
 use Rattle.slot.specs.Number.{none}
 use Rattle.slot.specs.Slot.{Link, Slot}
-use Rattle.table.specs.Table.{Table, at, put}
-use Rattle.table.proofs.Laws.{Full, at-put-same, at-put-other, at-out, put-full}
+use Rattle.table.specs.Table.{Table, at, put, Full}
+use Rattle.table.proofs.Laws.{at-put-same, at-put-other, at-out, put-full}
 use Rattle.rules.specs.Act.{Act, skip, say, change, _then_, alter}
 use Rattle.rules.specs.Slots.{isShrink, next}
 use Rattle.rules.specs.Matching.{temporaryMatch, matchSiblings}

@@ -4,7 +4,7 @@ use mathlib.Core.Bool.{true, false}
 use Prim.Native.Nat.{ℕ, _+_}
 use borrow.Author.Tests.{le-leb, lt-leb}
 use Rattle.slot.specs.Slot.{Link}
-use Rattle.table.specs.Table.{Table, at}
+use Rattle.table.specs.Table.{Table, at, Full}
 use Rattle.counts.specs.Counts.{blossomEnd}
 use Rattle.counts.proofs.BlossomEnd.{no-slot-left, slot-left}
 use Rattle.nodes.specs.declared.place.Place.{Place}
@@ -18,7 +18,6 @@ use Rattle.rules.specs.Blossom.{lacksBlossomSlot, createBlossom}
 use Rattle.rules.specs.Conflict.{conflictLink, blossomInTree, treesMeet, rowOf, resolved, conflict}
 use Rattle.rules.proofs.Runs.{world, runs, run-then, run-look, run-read, run-skip, run-yes, run-no}
 use Rattle.trees.specs.Meeting.{meetByDepths}
-use Rattle.table.proofs.Laws.{Full}
 use Rattle.trees.proofs.Meets.{meet-by-depths}
 use Rattle.conflicts.specs.ByDepths.{blossomByDepths}
 

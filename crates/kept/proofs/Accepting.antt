@@ -30,11 +30,12 @@ use Rattle.rules.specs.Calls.{verdict}
 use Rattle.sound_facts.specs.FactsOfBlossoms.{DefectInside}
 use Rattle.sound_facts.proofs.Reflect.{→and, tests, same-or-not, test-case, test-true, test-false, not↔}
 use Rattle.sound_facts.proofs.ReflectSlots.{grow-shrink}
+use Rattle.kept.specs.RuleFacts.{Whole, RightLink, OneTree}
 use Rattle.kept.proofs.AcceptedRequests.{no-test, Acceptable, acceptable, acceptable-virtual}
-use Rattle.kept.proofs.Renewing.{Whole, Kept, kept-then}
-use Rattle.kept.proofs.Matches.{RightLink, right-kept}
+use Rattle.kept.proofs.Renewing.{Kept, kept-then}
+use Rattle.kept.proofs.Matches.{right-kept}
 use Rattle.kept.proofs.Loading.{Loaded, unloaded→, load-does}
-use Rattle.kept.proofs.Resolving.{OneTree, spot, resolved-whole, freed-whole}
+use Rattle.kept.proofs.Resolving.{spot, resolved-whole, freed-whole}
 
 pub touch-some : (t : Table) → Whole t → (n touch : ℕ) → DefectInside t n touch → touch ≢ none
 touch-some t w n touch d = omega (arith, d .defect, w .rest .sizes .begin-fits)

@@ -7,8 +7,7 @@ use Prim.Native.Nat.{ℕ, zero, suc}
 use lib.Dec.{T, eqb, eqb→eq}
 use Rattle.slot.specs.declared.state.State.the-variants as S
 use Rattle.slot.specs.Number.{none}
-use Rattle.table.specs.Table.{Table, at}
-use Rattle.table.proofs.Laws.{Full}
+use Rattle.table.specs.Table.{Table, at, Full}
 use Rattle.nodes.specs.Nodes.{outer}
 use Rattle.rules.specs.Slots.{up}
 use Rattle.rules.specs.Trees.{root}
@@ -17,11 +16,10 @@ use Rattle.sound_facts.specs.FactsOfNodes.{Free, Paired, Minus, Plus, Kind, fre
 use Rattle.sound_facts.proofs.ReflectSlots.{stay-grow, grow-shrink}
 use Rattle.sound_facts.proofs.ChildLaws.{no-child, has-child, plus-below-minus, minus-only}
 use Rattle.sound_facts.proofs.TouchLaws.{peer-touch-tree}
+use Rattle.kept.specs.RuleFacts.{Single, Whole, RightLink, Below}
 use Rattle.kept.proofs.Frames.{some-outer}
-use Rattle.kept.proofs.Singles.{Single}
-use Rattle.kept.proofs.Renewing.{Whole, Kept, SameCounts}
-use Rattle.kept.proofs.Matches.{RightLink}
-use Rattle.kept.proofs.Below.{Below, below-child, below-join, top-not-below, not-below-self}
+use Rattle.kept.proofs.Renewing.{Kept, SameCounts}
+use Rattle.kept.proofs.Below.{below-child, below-join, top-not-below, not-below-self}
 use Rattle.kept.proofs.Cleared.{counts-then}
 use Rattle.kept.proofs.Trimming.{Aside, Trimmed, below-root}
 

@@ -18,11 +18,10 @@ use Rattle.sound_facts.proofs.Reflect.{same-or-not}
 use Rattle.sound_facts.proofs.ReflectSlots.{stay-grow, stay-shrink}
 use Rattle.sound_facts.proofs.ChildLaws.{has-child}
 use Rattle.sound_facts.proofs.Past.{outer-below}
+use Rattle.kept.specs.RuleFacts.{alone-free, Whole, RightLink, Below}
 use Rattle.kept.proofs.Frames.{some-outer}
-use Rattle.kept.proofs.Singles.{alone-free}
-use Rattle.kept.proofs.Renewing.{Whole, Kept, kept-then}
-use Rattle.kept.proofs.Matches.{paired-frame, slots-paired, RightLink, right-kept, match-first, match-second, match-other, match-full, kept-match, match-whole}
-use Rattle.kept.proofs.Below.{Below}
+use Rattle.kept.proofs.Renewing.{Kept, kept-then}
+use Rattle.kept.proofs.Matches.{paired-frame, slots-paired, right-kept, match-first, match-second, match-other, match-full, kept-match, match-whole}
 use Rattle.kept.proofs.Splitting.{freed}
 use Rattle.kept.proofs.Cleared.{counts-then, match-counts}
 use Rattle.kept.proofs.Trimming.{Aside, Trimmed, below-or-not, root-up, root-here, root-other}

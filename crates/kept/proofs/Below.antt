@@ -10,8 +10,7 @@ use lib.Dec.{T}
 use lib.ListN.{length}
 use Rattle.lists.specs.Choice.{pick}
 use Rattle.slot.specs.Number.{none}
-use Rattle.table.specs.Table.{Table, at}
-use Rattle.table.proofs.Laws.{Full}
+use Rattle.table.specs.Table.{Table, at, Full}
 use Rattle.nodes.specs.Nodes.{outer}
 use Rattle.rules.specs.Slots.{isSome, up}
 use Rattle.rules.proofs.DefectCounts.{bit-most}
@@ -22,11 +21,8 @@ use Rattle.sound_facts.proofs.Reflect.{same-or-not, tests}
 use Rattle.sound_facts.proofs.Chains.{chain-unique}
 use Rattle.sound_facts.proofs.Climbing.{steps-join}
 use Rattle.sound_facts.proofs.Past.{outer-below}
+use Rattle.kept.specs.RuleFacts.{Below}
 use Rattle.kept.proofs.Frames.{some-outer, Pruned}
-
--- j is below y: one step up or more lead from j to y
-abbrev pub Below : Table → ℕ → ℕ → Type 0
-Below t y j = (k : ℕ) × Steps (outer t) (up t) (suc k) j y
 
 pub below-child : (t : Table) (y j : ℕ) → OuterChild t y j → Below t y j
 below-child t y j c = (0, c)

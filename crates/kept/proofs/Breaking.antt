@@ -5,16 +5,17 @@ use mathlib.Core.List.{List, [], _∷_}
 use Prim.Native.Nat.{ℕ, _<_}
 use lib.Dec.{T}
 use Rattle.slot.specs.Slot.{Slot}
-use Rattle.table.specs.Table.{Table, at, put}
-use Rattle.table.proofs.Laws.{Full, at-put-same, at-put-other, put-full}
+use Rattle.table.specs.Table.{Table, at, put, Full}
+use Rattle.table.proofs.Laws.{at-put-same, at-put-other, put-full}
 use Rattle.nodes.specs.Nodes.{outer}
 use Rattle.sound_facts.specs.Chain.{_∈_}
 use Rattle.sound_facts.specs.FactsOfNodes.{Free, Paired}
 use Rattle.sound_facts.proofs.Past.{outer-below}
 use Rattle.sound_facts.proofs.KindLaws.{paired-back}
+use Rattle.kept.specs.RuleFacts.{Single, Whole}
 use Rattle.kept.proofs.Frames.{in-or-not}
-use Rattle.kept.proofs.Singles.{Single, Lone, lone-free, lone-paired, lone-single, singles-apart, ends-lone}
-use Rattle.kept.proofs.Renewing.{of-none, Whole, Fits, Kept, SameCounts, kept-each}
+use Rattle.kept.proofs.Singles.{Lone, lone-free, lone-paired, lone-single, singles-apart, ends-lone}
+use Rattle.kept.proofs.Renewing.{of-none, Fits, Kept, SameCounts, kept-each}
 use Rattle.kept.proofs.Splitting.{freed}
 
 pub free-freed : (s : Slot) → Free (freed s)

@@ -7,8 +7,7 @@ use lib.Dec.{T}
 use Rattle.slot.specs.declared.state.State.the-variants as S
 use Rattle.slot.specs.Number.{none}
 use Rattle.slot.specs.Slot.{Link}
-use Rattle.table.specs.Table.{Table, at}
-use Rattle.table.proofs.Laws.{Full}
+use Rattle.table.specs.Table.{Table, at, Full}
 use Rattle.nodes.specs.Nodes.{present, outer}
 use Rattle.nodes.specs.Climb.{insideWithin, inside, outerBlossomWithin, outerBlossom, secondOuterWithin, secondOuterBlossom}
 use Rattle.refusal.specs.declared.Verdict.the-variants as W
@@ -24,13 +23,13 @@ use Rattle.rules.specs.Expansion.{expansion}
 use Rattle.rules.specs.Conflict.{blossomInTree}
 use Rattle.rules.specs.Calls.{verdict}
 use Rattle.sound_facts.specs.FactsOfBlossoms.{PresentBlossom}
-use Rattle.kept.proofs.Resolving.{OneTree}
+use Rattle.kept.specs.RuleFacts.{OneTree, Below}
+use Rattle.kept.specs.WithBudgets.{blossomInTreeBy, expansionWithin}
 use Rattle.kept.proofs.Wholes.{to-whole}
-use Rattle.kept.proofs.Below.{Below}
 use Rattle.kept.proofs.Rows.{second-enough}
 use Rattle.kept.proofs.TreesInPairs.{augment-budget, siblings-budget, subtree-budget}
-use Rattle.kept.proofs.MakingBudgets.{blossomInTreeBy, budgets-suffice}
-use Rattle.kept.proofs.ExpansionBudgets.{expansionWithin, expansion-budget, second-outer-enough}
+use Rattle.kept.proofs.MakingBudgets.{budgets-suffice}
+use Rattle.kept.proofs.ExpansionBudgets.{expansion-budget, second-outer-enough}
 use Rattle.kept.proofs.ClimbBudgets.{inside-enough, outer-blossom-enough, upward-enough, root-enough, children-enough, ring-enough}
 
 module _ (t : Table) (full : Full t) (s : T (sound t)) where

@@ -8,8 +8,7 @@ use lib.Dec.{T}
 use Rattle.slot.specs.declared.state.State.the-variants as S
 use Rattle.slot.specs.Number.{none}
 use Rattle.slot.specs.Slot.{Link}
-use Rattle.table.specs.Table.{Table, at, put}
-use Rattle.table.proofs.Laws.{Full}
+use Rattle.table.specs.Table.{Table, at, put, Full}
 use Rattle.nodes.specs.Nodes.{outer}
 use Rattle.rules.specs.Act.{say, change, _then_, alter}
 use Rattle.rules.specs.Slots.{withFirstChild, up}
@@ -17,9 +16,9 @@ use Rattle.rules.specs.Matching.{temporaryMatch}
 use Rattle.sound_facts.specs.FactsOfNodes.{Paired, OuterChild}
 use Rattle.sound_facts.proofs.Reflect.{same-or-not}
 use Rattle.sound_facts.proofs.ChildLaws.{no-child}
+use Rattle.kept.specs.RuleFacts.{Whole, Below}
 use Rattle.kept.proofs.Frames.{Pruned}
-use Rattle.kept.proofs.Renewing.{Whole, Kept, SameCounts, kept-self}
-use Rattle.kept.proofs.Below.{Below}
+use Rattle.kept.proofs.Renewing.{Kept, SameCounts, kept-self}
 
 -- the list below the Grow node y of t is to be cleared, in u, which is t below y
 pub record Task (t : Table) (y : ℕ) (u : Table) : Type 0 where

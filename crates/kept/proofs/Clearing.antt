@@ -7,8 +7,7 @@ use lib.Dec.{T}
 use Rattle.slot.specs.declared.state.State.the-variants as S
 use Rattle.slot.specs.Number.{none}
 use Rattle.slot.specs.Slot.{Link, mirror}
-use Rattle.table.specs.Table.{Table, at}
-use Rattle.table.proofs.Laws.{Full}
+use Rattle.table.specs.Table.{Table, at, Full}
 use Rattle.nodes.specs.Nodes.{outer}
 use Rattle.rules.specs.Slots.{withFirstChild, up, next}
 use Rattle.rules.specs.Matching.{matchedTo, temporaryMatch}
@@ -17,11 +16,11 @@ use Rattle.sound_facts.proofs.Reflect.{same-or-not}
 use Rattle.sound_facts.proofs.KindLaws.{paired-back}
 use Rattle.sound_facts.proofs.Past.{outer-below}
 use Rattle.sound_facts.proofs.TouchLaws.{peer-touch-tree}
+use Rattle.kept.specs.RuleFacts.{alone-free, Whole, RightLink, Below}
 use Rattle.kept.proofs.Frames.{some-outer, Pruned}
-use Rattle.kept.proofs.Singles.{alone-free}
-use Rattle.kept.proofs.Renewing.{Whole, Kept, kept-then}
-use Rattle.kept.proofs.Matches.{paired-frame, RightLink, right-kept, match-first, match-second, match-other, match-full, slots-paired, kept-match, match-whole}
-use Rattle.kept.proofs.Below.{Below, below-child, below-join, below-step, top-not-below, not-below-self, pruned-below, tied, tied-less}
+use Rattle.kept.proofs.Renewing.{Kept, kept-then}
+use Rattle.kept.proofs.Matches.{paired-frame, right-kept, match-first, match-second, match-other, match-full, slots-paired, kept-match, match-whole}
+use Rattle.kept.proofs.Below.{below-child, below-join, below-step, top-not-below, not-below-self, pruned-below, tied, tied-less}
 use Rattle.kept.proofs.Splitting.{Branch, freed, split, SplitSlots, split-does, split-kept, split-counts, split-was, split-pruned, split-whole, branch-below, y≢n, y≢c, n≢c}
 use Rattle.kept.proofs.Cleared.{Task, Mated, Ended, touched, untouched, Cleared, cleared-was, cleared-pruned, cleared-other, cleared-left, pruned-then, counts-then, match-counts}
 

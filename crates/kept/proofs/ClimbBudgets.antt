@@ -18,9 +18,9 @@ use Rattle.sound_facts.specs.FactsOfBlossoms.{PresentBlossom}
 use Rattle.sound_facts.proofs.Reflect.{pick-no}
 use Rattle.sound_facts.proofs.Chains.{chain-walk, chain-fits}
 use Rattle.sound_facts.proofs.Past.{inner-below, outer-below}
+use Rattle.kept.specs.RuleFacts.{Whole}
 use Rattle.kept.proofs.WaysUp.{upward-chain, upward-short, root-end, root-is-end}
 use Rattle.sound_facts.proofs.ChildLaws.{outer-some}
-use Rattle.kept.proofs.Renewing.{Whole}
 
 climb-on : (e b u v : Bool) → (T b → u ≡ v) → (e || (b && u)) ≡ (e || (b && v))
 climb-on e true u v h = ap (λ (x : Bool). e || x) (h tt)

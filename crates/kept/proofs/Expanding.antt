@@ -9,8 +9,8 @@ use lib.Dec.{T}
 use Rattle.slot.specs.declared.state.State.the-variants as S
 use Rattle.slot.specs.Number.{none}
 use Rattle.slot.specs.Slot.{emptySlot}
-use Rattle.table.specs.Table.{Table, at, put}
-use Rattle.table.proofs.Laws.{Full, at-put-same, at-put-other, put-full}
+use Rattle.table.specs.Table.{Table, at, put, Full}
+use Rattle.table.proofs.Laws.{at-put-same, at-put-other, put-full}
 use Rattle.nodes.specs.Nodes.{outer, inner}
 use Rattle.nodes.specs.Climb.{secondOuterBlossom}
 use Rattle.refusal.specs.declared.Verdict.the-variants as W
@@ -24,6 +24,7 @@ use Rattle.rules.specs.Calls.{verdict}
 use Rattle.sound_facts.specs.Chain.{_∈_}
 use Rattle.sound_facts.specs.FactsOfNodes.{Minus, Plus, OuterChild}
 use Rattle.sound_facts.specs.FactsOfBlossoms.{InnerChild, DefectInside, Inside}
+use Rattle.kept.specs.RuleFacts.{Whole, RightLink}
 use Rattle.kept.proofs.AcceptedRequests.{acceptable-expansion}
 use Rattle.sound_facts.proofs.ReflectSlots.{outer-not-inner, outer-present, grow-shrink}
 use Rattle.sound_facts.proofs.Past.{outer-below, inner-below}
@@ -31,8 +32,7 @@ use Rattle.sound_facts.proofs.ChildLaws.{first-child, child-of-shrink, shrink-i
 use Rattle.sound_facts.proofs.InsideLaws.{inside-case, outer-blossom-is, second-outer-holds, second-outer-ring}
 use Rattle.sound_facts.proofs.TouchLaws.{peer-touch-tree}
 use Rattle.kept.proofs.Frames.{some-outer}
-use Rattle.kept.proofs.Renewing.{Whole, SameCounts, put-counts}
-use Rattle.kept.proofs.Matches.{RightLink}
+use Rattle.kept.proofs.Renewing.{SameCounts, put-counts}
 use Rattle.kept.proofs.Cleared.{counts-then}
 use Rattle.kept.proofs.Opened.{headOr, Attached, AttachedDown, Opened}
 use Rattle.kept.proofs.OpenedRest.{opened-whole}

@@ -5,11 +5,11 @@ use mathlib.Core.Bool.{false}
 use mathlib.Core.List.{List, [], _∷_, _++_}
 use Prim.Native.Nat.{ℕ, zero, suc, _+_, _%_, _≤_}
 use native.Mathlib.Omega.{arith}
-use lib.Dec.{T, eqb}
+use lib.Dec.{T}
 use lib.ListN.{length}
 use Rattle.lists.specs.Choice.{pick}
 use Rattle.slot.specs.declared.state.State.the-variants as S
-use Rattle.slot.specs.Slot.{Link, Slot, emptySlot}
+use Rattle.slot.specs.Slot.{Link, emptySlot}
 use Rattle.table.specs.Table.{Table, at, put}
 use Rattle.nodes.specs.Nodes.{present, outer, inner}
 use Rattle.nodes.specs.Climb.{secondOuterWithin, secondOuterBlossom}
@@ -17,8 +17,8 @@ use Rattle.refusal.specs.declared.Verdict.the-variants as W
 use Rattle.record.specs.declared.request.Expansion.{Expansion}
 use Rattle.record.specs.declared.request.Request.the-variants as Q
 use Rattle.rules.specs.Act.{Act, say, change, _then_, look, read, choose, alter, expand}
-use Rattle.rules.specs.Slots.{withParent, withFirstChild, withSibling, up, next}
-use Rattle.rules.specs.Blossom.{relinked, relisted, replaceChild}
+use Rattle.rules.specs.Slots.{withParent, withSibling, up, next}
+use Rattle.rules.specs.Blossom.{relisted, replaceChild}
 use Rattle.rules.specs.Expansion.{stepsTo, matchChain, attachDown, attachUp, ringOpened, disposed, expandBlossom, expansion}
 use Rattle.rules.specs.Calls.{verdict}
 use Rattle.sound_facts.proofs.Reflect.{eqb-yes, eqb-no, pick-no, same-or-not}
@@ -26,7 +26,8 @@ use Rattle.sound_facts.proofs.ReflectSlots.{outer-not-inner, inner-present}
 use Rattle.sound_facts.proofs.Past.{present-below}
 use Rattle.sound_facts.proofs.KindLaws.{present-case}
 use Rattle.sound_facts.proofs.InsideLaws.{inside-present}
-use Rattle.kept.proofs.Renewing.{Whole}
+use Rattle.kept.specs.RuleFacts.{Whole}
+use Rattle.kept.specs.WithBudgets.{ringOpenedWithin, relistedWithin, replaceChildWithin, disposedWithin, expandBlossomWithin, expansionWithin}
 use Rattle.kept.proofs.RingLoops.{then-same, twoByTwo, hungDown, hungUp}
 use Rattle.kept.proofs.RingCut.{CutRing}
 use Rattle.kept.proofs.RingTaken.{RingTaken}
@@ -34,36 +35,6 @@ use Rattle.kept.proofs.RingOpening.{then-both, steps-counted, even-matc
 use Rattle.kept.proofs.PlaceInList.{relinked-enough}
 use Rattle.kept.proofs.Expanding.{is-minus, top-held, bottom-held, blossom-cut, top-right}
 use Rattle.kept.proofs.AcceptedRequests.{acceptable-expansion}
-
--- ---- expansion as specs/Expansion has it, with k for each budget
-
-unfoldable pub ringOpenedWithin : ℕ → ℕ → ℕ → ℕ → ℕ → Link → Act
-ringOpenedWithin k p c above below l =
-    read λ t.
-    choose (eqb (stepsTo k c p t % 2) 0)
-    (matchChain k p (next t c) then attachDown k c below false above l p)
-    (matchChain k c (next t p) then attachUp k p above l false below c)
-
-unfoldable pub relistedWithin : ℕ → ℕ → ℕ → ℕ → Table → Table
-relistedWithin k p from to t =
-    choose (eqb (at t p .firstChild) from) (alter p (withFirstChild to)) (relinked k (at t p .firstChild) from to) t
-
-unfoldable pub replaceChildWithin : ℕ → ℕ → ℕ → ℕ → Table → Table
-replaceChildWithin k p from to t = let u = relistedWithin k p from to t in alter to (withSibling (next u from)) u
-
-unfoldable pub disposedWithin : ℕ → ℕ → ℕ → ℕ → ℕ → ℕ → Table → Table
-disposedWithin k b p c above below t = put (alter below (withParent c) (replaceChildWithin k above b p t)) b emptySlot
-
-unfoldable pub expandBlossomWithin : ℕ → ℕ → Slot → ℕ → ℕ → Act
-expandBlossomWithin k b s p c =
-    say (expand b)
-    then ringOpenedWithin k p c (s .parent) (s .firstChild) (s .link)
-    then change (disposedWithin k b p c (s .parent) (s .firstChild))
-
-unfoldable pub expansionWithin : ℕ → ℕ → Act
-expansionWithin k b =
-    look b λ s. look (s .firstChild) λ child.
-    read λ t. expandBlossomWithin k b s (secondOuterWithin k t (s .link .touch) (s .link .touch)) (secondOuterWithin k t (child .link .peerTouch) (child .link .peerTouch))
 
 -- the rule has 256 for each
 pub within-256 : (b : ℕ) → expansionWithin 256 b ≡ expansion b

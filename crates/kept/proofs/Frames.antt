@@ -7,8 +7,7 @@ use Prim.Native.Nat.{ℕ}
 use lib.Dec.{T, T-not}
 use Rattle.slot.specs.Number.{none}
 use Rattle.slot.specs.Slot.{Slot}
-use Rattle.table.specs.Table.{Table, at}
-use Rattle.table.proofs.Laws.{Full}
+use Rattle.table.specs.Table.{Table, at, Full}
 use Rattle.nodes.specs.Nodes.{outer}
 use Rattle.rules.specs.Slots.{up, next}
 use Rattle.rules.specs.Walk.{isIn}

@@ -5,13 +5,13 @@ use mathlib.Core.Logic.{_≢_, _↔_, _⊎_, inl, inr}
 use mathlib.Core.List.{List, [], _∷_, _++_}
 use Prim.Native.Nat.{ℕ, zero, suc, _≤_, _<_}
 use native.Mathlib.Omega.{arith}
-use lib.Dec.{T, eqb}
+use lib.Dec.{T}
 use lib.ListN.{length}
 use Rattle.slot.specs.Number.{none}
 use Rattle.slot.specs.Slot.{Slot}
 use Rattle.table.specs.Table.{Table, at}
 use Rattle.nodes.specs.Nodes.{outer}
-use Rattle.rules.specs.Act.{choose, same}
+use Rattle.rules.specs.Act.{choose}
 use Rattle.rules.specs.Slots.{up, next}
 use Rattle.rules.specs.Blossom.{moved, movedUpTo, lastBelow}
 use Rattle.sound_facts.specs.Chain.{_∈_, NoDup, Chain}
@@ -19,18 +19,13 @@ use Rattle.sound_facts.specs.FactsOfNodes.{Children}
 use Rattle.sound_facts.proofs.Reflect.{eqb-yes, eqb-no, same-or-not}
 use Rattle.sound_facts.proofs.Chains.{chain-frame, chain-fits}
 use Rattle.sound_facts.proofs.Past.{at-none, outer-below}
-use Rattle.kept.proofs.Renewing.{Whole}
+use Rattle.kept.specs.RuleFacts.{Whole}
+use Rattle.kept.specs.WithBudgets.{movedUpToBy}
 use Rattle.kept.proofs.Adopting.{Taken, taken-none, Moved, Untaken, moved-along}
 use Rattle.kept.proofs.RingOfPaths.{onto, lastOr, InRingOnly, Stepped}
 use Rattle.kept.proofs.Placing.{Placed}
 
 -- ---- the walks, a step at a time
-
--- `movedUpTo` with a budget for the child lists too
-unfoldable pub movedUpToBy : ℕ → ℕ → ℕ → ℕ → ℕ → ℕ → Table → Table
-movedUpToBy lists zero b m below n t = t
-movedUpToBy lists (suc k) b m below n t =
-    choose (eqb n m) same (λ u. movedUpToBy lists k b m n (up u n) (moved lists b below below (at u n .firstChild) u)) t
 
 upto-end : (lists k b m below n : ℕ) (v : Table) → n ≡ m → movedUpToBy lists k b m below n v ≡ v
 unfolding movedUpToBy choose

@@ -7,8 +7,8 @@ use lib.Dec.{T}
 use Rattle.slot.specs.declared.state.State.the-variants as S
 use Rattle.slot.specs.Number.{none}
 use Rattle.slot.specs.Slot.{Link}
-use Rattle.table.specs.Table.{Table, at, put}
-use Rattle.table.proofs.Laws.{Full, at-put-same, at-put-other, put-full}
+use Rattle.table.specs.Table.{Table, at, put, Full}
+use Rattle.table.proofs.Laws.{at-put-same, at-put-other, put-full}
 use Rattle.nodes.specs.Nodes.{outer}
 use Rattle.rules.specs.Act.{say, change, _then_, look, alter}
 use Rattle.rules.specs.Slots.{withFirstChild, up, next}
@@ -22,10 +22,10 @@ use Rattle.sound_facts.proofs.Past.{outer-below}
 use Rattle.sound_facts.proofs.KindLaws.{paired-back}
 use Rattle.sound_facts.proofs.OuterLists.{parent-outer}
 use Rattle.sound_facts.proofs.TouchLaws.{peer-touch-paired}
+use Rattle.kept.specs.RuleFacts.{Single, Whole, RightLink}
 use Rattle.kept.proofs.Frames.{in-or-not, some-outer, no-children, one-child, next-upward, SeenAlike, core-frame}
-use Rattle.kept.proofs.Singles.{Single, lone-paired, lone-single, no-parent-of, no-first-child}
-use Rattle.kept.proofs.Renewing.{of-none, Whole, Fits, Kept, SameCounts, kept-each, alter-full}
-use Rattle.kept.proofs.Matches.{RightLink}
+use Rattle.kept.proofs.Singles.{lone-paired, lone-single, no-parent-of, no-first-child}
+use Rattle.kept.proofs.Renewing.{of-none, Fits, Kept, SameCounts, kept-each, alter-full}
 
 pub hang-table :
     (plus : ℕ) (l : Link) (matched peer : ℕ) (t : Table)

@@ -10,7 +10,7 @@ use Rattle.record.specs.declared.request.Request.the-variants as Q
 use Rattle.rules.specs.Act.{skip, change}
 use Rattle.rules.specs.Conflict.{conflictLink, conflict}
 use Rattle.rules.specs.Calls.{list, actOf, actBy, verdict, answered}
-use Rattle.kept.proofs.Renewing.{Whole}
+use Rattle.kept.specs.RuleFacts.{Whole}
 use Rattle.kept.proofs.Making.{blossom-keeps}
 use Rattle.kept.proofs.Accepting.{conflict-keeps-by, virtual-keeps}
 use Rattle.kept.proofs.Expanding.{expansion-keeps}

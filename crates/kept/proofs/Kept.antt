@@ -2,8 +2,7 @@
 use mathlib.Core.Path.{_≡_}
 use Prim.Native.Nat.{ℕ, _≤_}
 use lib.Dec.{T}
-use Rattle.table.specs.Table.{Table}
-use Rattle.table.proofs.Laws.{Full}
+use Rattle.table.specs.Table.{Table, Full}
 use Rattle.counts.specs.Making.{fresh, emptied}
 use Rattle.refusal.specs.declared.Verdict.the-variants as W
 use Rattle.record.specs.declared.request.Conflict.{Conflict}

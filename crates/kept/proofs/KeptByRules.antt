@@ -6,8 +6,7 @@ use lib.Dec.{T}
 use Rattle.slot.specs.declared.state.State.the-variants as S
 use Rattle.slot.specs.Number.{none, noVertex}
 use Rattle.slot.specs.Slot.{Link}
-use Rattle.table.specs.Table.{Table, at}
-use Rattle.table.proofs.Laws.{Full}
+use Rattle.table.specs.Table.{Table, at, Full}
 use Rattle.nodes.specs.Nodes.{outer}
 use Rattle.rules.specs.Trees.{isUnloaded, loaded, root}
 use Rattle.rules.specs.Matching.{temporaryMatch, temporaryMatchVirtual, augmentWholeTree}
@@ -17,14 +16,12 @@ use Rattle.rules.specs.Conflict.{growTree, hangPair, blossomInTree}
 use Rattle.sound_facts.specs.FactsOfNodes.{Free, Paired}
 use Rattle.sound_facts.specs.FactsOfBlossoms.{DefectInside}
 use Rattle.sound_facts.specs.Facts.{Sound}
-use Rattle.kept.proofs.Singles.{Single, Alone}
-use Rattle.kept.proofs.Renewing.{Whole}
-use Rattle.kept.proofs.Matches.{RightLink, match-whole, virtual-whole}
+use Rattle.kept.specs.RuleFacts.{Single, Alone, Whole, RightLink, OneTree}
+use Rattle.kept.proofs.Matches.{match-whole, virtual-whole}
 use Rattle.kept.proofs.Loading.{load-does}
 use Rattle.kept.proofs.Hanging.{grow-whole, hang-whole}
 use Rattle.kept.proofs.TreesInPairs.{tree-paired, node-single, others-same}
 use Rattle.kept.proofs.Rows.{alone-tree, tree-alone, tree-virtual, two-trees}
-use Rattle.kept.proofs.Resolving.{OneTree}
 use Rattle.kept.proofs.Making.{blossom-keeps}
 use Rattle.kept.proofs.Expanding.{blossom-expanded}
 

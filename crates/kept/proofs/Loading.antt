@@ -9,8 +9,8 @@ use lib.Dec.{T, ltb→lt}
 use Rattle.slot.specs.declared.state.State.the-variants as S
 use Rattle.slot.specs.Number.{none}
 use Rattle.slot.specs.Slot.{Slot, newNode}
-use Rattle.table.specs.Table.{Table, at, put}
-use Rattle.table.proofs.Laws.{Full, at-put-same, at-put-other, put-full}
+use Rattle.table.specs.Table.{Table, at, put, Full}
+use Rattle.table.proofs.Laws.{at-put-same, at-put-other, put-full}
 use Rattle.counts.specs.Counts.{withDefects}
 use Rattle.nodes.specs.Nodes.{isDefect, present, outer}
 use Rattle.rules.specs.Act.{choose}
@@ -20,9 +20,10 @@ use Rattle.sound_facts.specs.FactsOfNodes.{Free}
 use Rattle.sound_facts.specs.Facts.{Sizes, Given, Names, Core}
 use Rattle.sound_facts.proofs.Reflect.{and→, same-or-not, test-case, test-true, test-false, not↔}
 use Rattle.sound_facts.proofs.ReflectSlots.{not-present↔}
+use Rattle.kept.specs.RuleFacts.{Whole}
 use Rattle.kept.proofs.Frames.{Apart}
 use Rattle.kept.proofs.Singles.{lone-free, ends-lone}
-use Rattle.kept.proofs.Renewing.{of-none, Whole, Renewed, Kept, kept-self, kept-renewed}
+use Rattle.kept.proofs.Renewing.{of-none, Renewed, Kept, kept-self, kept-renewed}
 
 -- the table with a new node in slot n
 unfoldable withNew : Table → ℕ → Table

@@ -8,15 +8,14 @@ use lib.ListN.{length}
 use Rattle.slot.specs.declared.state.State.the-variants as S
 use Rattle.slot.specs.Number.{none}
 use Rattle.slot.specs.Slot.{Link}
-use Rattle.table.specs.Table.{Table, at}
-use Rattle.table.proofs.Laws.{Full}
+use Rattle.table.specs.Table.{Table, at, Full}
 use Rattle.nodes.specs.Nodes.{outer}
 use Rattle.rules.specs.Slots.{withParent, withFirstChild, withSibling, up, next}
 use Rattle.rules.specs.Sound.{nextInRing}
 use Rattle.rules.specs.Blossom.{enclosed, newBlossom}
 use Rattle.sound_facts.specs.Chain.{_∈_, Chain}
 use Rattle.sound_facts.specs.FactsOfNodes.{OuterChild}
-use Rattle.kept.proofs.Matches.{RightLink}
+use Rattle.kept.specs.RuleFacts.{RightLink}
 
 -- the nodes of the two paths, the meeting node m among them, as they stand in their tree
 pub record InTree (t : Table) (m : ℕ) (ring : List ℕ) : Type 0 where

@@ -25,7 +25,8 @@ use Rattle.sound_facts.proofs.Chains.{chain-frame, chain-start, chain-next}
 use Rattle.sound_facts.proofs.Climbing.{steps-frame}
 use Rattle.sound_facts.proofs.InsideLaws.{inside-join, inside-ring-node}
 use Rattle.sound_facts.proofs.TouchLaws.{peer-touch-tree}
-use Rattle.kept.proofs.Renewing.{Whole, farOf}
+use Rattle.kept.specs.RuleFacts.{Whole}
+use Rattle.kept.proofs.Renewing.{farOf}
 use Rattle.kept.proofs.MadeBlossom.{Made}
 use Rattle.kept.proofs.MadeSlots as At
 use Rattle.kept.proofs.MadeTree.{made-core}

@@ -9,8 +9,7 @@ use lib.Dec.{T}
 use Rattle.slot.specs.declared.state.State.the-variants as S
 use Rattle.slot.specs.Number.{none}
 use Rattle.slot.specs.Slot.{Slot}
-use Rattle.table.specs.Table.{Table, at}
-use Rattle.table.proofs.Laws.{Full}
+use Rattle.table.specs.Table.{Table, at, Full}
 use Rattle.nodes.specs.Nodes.{present, outer}
 use Rattle.rules.specs.Slots.{withFirstChild, up, next}
 use Rattle.sound_facts.specs.Chain.{_∈_}
@@ -21,8 +20,8 @@ use Rattle.sound_facts.proofs.ReflectSlots.{grow-shrink, stay-grow, outer-prese
 use Rattle.sound_facts.proofs.Chains.{chain-start, chain-next}
 use Rattle.sound_facts.proofs.Past.{at-none}
 use Rattle.sound_facts.proofs.ChildLaws.{above-outer, first-child, child-of-grow, shrink-is-minus, minus-only}
+use Rattle.kept.specs.RuleFacts.{Whole}
 use Rattle.kept.proofs.Frames.{in-or-not, some-outer}
-use Rattle.kept.proofs.Renewing.{Whole}
 use Rattle.kept.proofs.TwoPaths.{above-grow}
 use Rattle.kept.proofs.MadeBlossom.{InTree, Made}
 

@@ -19,8 +19,8 @@ use Rattle.sound_facts.proofs.Chains.{chain-frame, chain-next}
 use Rattle.sound_facts.proofs.OuterLists.{upward-outer}
 use Rattle.sound_facts.proofs.Past.{present-some}
 use Rattle.sound_facts.proofs.ChildLaws.{above-outer}
+use Rattle.kept.specs.RuleFacts.{Whole}
 use Rattle.kept.proofs.Frames.{some-outer, one-child, top-upward, next-upward, SeenAlike, core-frame}
-use Rattle.kept.proofs.Renewing.{Whole}
 use Rattle.kept.proofs.MadeBlossom.{Made}
 use Rattle.kept.proofs.MadeSlots as At
 

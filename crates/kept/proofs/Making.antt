@@ -25,11 +25,9 @@ use Rattle.sound_facts.proofs.Chains.{chain-frame}
 use Rattle.sound_facts.proofs.Past.{outer-below}
 use Rattle.sound_facts.proofs.ChildLaws.{above-outer, shrink-is-minus, minus-only}
 use Rattle.sound_facts.proofs.OuterLists.{upward-fits}
+use Rattle.kept.specs.RuleFacts.{Whole, RightLink, OneTree}
 use Rattle.kept.proofs.WaysUp.{sameTree↔, meeting-found}
 use Rattle.kept.proofs.Frames.{some-outer}
-use Rattle.kept.proofs.Renewing.{Whole}
-use Rattle.kept.proofs.Matches.{RightLink}
-use Rattle.kept.proofs.Resolving.{OneTree}
 use Rattle.kept.proofs.TwoPaths.{TwoPaths, two-paths, above-grow}
 use Rattle.kept.proofs.MadeBlossom.{OffPath, InTree, Made}
 use Rattle.kept.proofs.MadeSlots.{below-next, grow-siblingless, twice-above}

@@ -4,71 +4,36 @@ use mathlib.Core.Logic.{_≢_, inl, inr}
 use mathlib.Core.List.{[], _∷_}
 use Prim.Native.Nat.{ℕ, suc, _+_, _≤_}
 use native.Mathlib.Omega.{arith}
-use lib.Dec.{T, eqb}
+use lib.Dec.{T}
 use Rattle.slot.specs.Number.{none}
 use Rattle.slot.specs.Slot.{Link, Slot}
 use Rattle.table.specs.Table.{Table, at, put}
 use Rattle.nodes.specs.Nodes.{outer}
 use Rattle.counts.specs.Counts.{withBlossoms}
-use Rattle.rules.specs.Act.{Did, Act, skip, say, change, _then_, read, choose, alter, same, create}
-use Rattle.rules.specs.Slots.{withFirstChild, withSibling, isNone, up, next}
+use Rattle.rules.specs.Act.{Did, say, change, _then_, read, choose, create}
+use Rattle.rules.specs.Slots.{up, next}
 use Rattle.rules.specs.Walk.{walk, firstShared}
 use Rattle.rules.specs.Trees.{upward, meeting}
-use Rattle.rules.specs.Blossom.{lacksBlossomSlot, relinked, relisted, replaceChild, moved, lastBelow, gathered, ringUp, ringDown, ringed, newBlossom, blossomPlaced, createBlossom}
+use Rattle.rules.specs.Blossom.{lacksBlossomSlot, relisted, replaceChild, gathered, ringed, newBlossom, blossomPlaced, createBlossom}
 use Rattle.rules.specs.Conflict.{blossomInTree}
 use Rattle.sound_facts.proofs.Reflect.{eqb-yes, eqb-no, same-or-not, test-case, test-true, test-false, not↔}
 use Rattle.sound_facts.proofs.Chains.{chain-walk}
+use Rattle.kept.specs.RuleFacts.{OneTree}
+use Rattle.kept.specs.WithBudgets.{movedUpToBy, relistedWithin, replaceChildWithin, meetingBy, blossomPlacedBy, gatheredBy, ringedBy, createBlossomBy, blossomInTreeBy}
 use Rattle.kept.proofs.WaysUp.{upward-chain, upward-short}
-use Rattle.kept.proofs.Resolving.{OneTree}
 use Rattle.kept.proofs.Placing.{counted-at, stored-other}
 use Rattle.kept.proofs.MadeSlots.{grow-siblingless}
-use Rattle.kept.proofs.Gathering.{movedUpToBy, lists-of-256}
+use Rattle.kept.proofs.Gathering.{lists-of-256}
 use Rattle.kept.proofs.Making as M
-
--- ---- the rule with k for the budget of every walk
-
-abbrev pub meetingBy : ℕ → Table → ℕ → ℕ → ℕ
-meetingBy k t x y = firstShared (walk (suc k) (up t) x) (walk (suc k) (up t) y)
-
-unfoldable pub relistedBy : ℕ → ℕ → ℕ → ℕ → Table → Table
-relistedBy k p from to t = choose (eqb (at t p .firstChild) from) (alter p (withFirstChild to)) (relinked k (at t p .firstChild) from to) t
-
-unfoldable pub replaceChildBy : ℕ → ℕ → ℕ → ℕ → Table → Table
-replaceChildBy k p from to t = let u = relistedBy k p from to t in alter to (withSibling (next u from)) u
-
-unfoldable pub blossomPlacedBy : ℕ → ℕ → ℕ → Table → Table
-blossomPlacedBy k b m t = choose (isNone (up t m)) same (replaceChildBy k (up t m) m b) (put t b (newBlossom m (at t m)))
-
-unfoldable pub gatheredBy : ℕ → ℕ → ℕ → ℕ → ℕ → Table → Table
-gatheredBy k b m x y t =
-    let after-x = movedUpToBy k k b m x x t in
-    let after-y = movedUpToBy k k b m y y after-x in
-    moved k b (lastBelow k m x x t) (lastBelow k m y y t) (at after-y m .firstChild) after-y
-
-unfoldable pub ringedBy : ℕ → ℕ → ℕ → ℕ → ℕ → Link → Table → Table
-ringedBy k b m x y l t = ringDown k b m x l y (ringUp k b m x t)
-
-unfoldable pub createBlossomBy : ℕ → ℕ → ℕ → ℕ → ℕ → ℕ → Link → Act
-createBlossomBy k b given m x y l =
-    change (λ t. withBlossoms t given)
-    then change (blossomPlacedBy k b m)
-    then change (gatheredBy k b m x y)
-    then change (ringedBy k b m x y l)
-    then say (create b)
-
-unfoldable pub blossomInTreeBy : ℕ → ℕ → ℕ → Link → Act
-blossomInTreeBy k x y l =
-    read λ t.
-    choose (lacksBlossomSlot t) skip (createBlossomBy k (t .begin + t .blossoms) (t .blossoms + 1) (meetingBy k t x y) x y l)
 
 -- ---- with the rule's own budget
 
-relisted-256 : (p from to : ℕ) (t : Table) → relistedBy 256 p from to t ≡ relisted p from to t
-unfolding relistedBy relisted
+relisted-256 : (p from to : ℕ) (t : Table) → relistedWithin 256 p from to t ≡ relisted p from to t
+unfolding relistedWithin relisted
 relisted-256 p from to t = refl
 
-replaced-256 : (p from to : ℕ) (t : Table) → replaceChildBy 256 p from to t ≡ replaceChild p from to t
-unfolding replaceChildBy replaceChild
+replaced-256 : (p from to : ℕ) (t : Table) → replaceChildWithin 256 p from to t ≡ replaceChild p from to t
+unfolding replaceChildWithin replaceChild
 replaced-256 p from to t = rw (relisted-256 p from to t)
 
 placed-256 : (b m : ℕ) (t : Table) → blossomPlacedBy 256 b m t ≡ blossomPlaced b m t
@@ -142,12 +107,12 @@ own-budget x y l t = by-slot 256 x y l t (λ _. same-result)
 -- ---- with any larger one
 
 -- where the first child is replaced, no list is walked
-relisted-first : (k p from to : ℕ) (t : Table) → at t p .firstChild ≡ from → relistedBy k p from to t ≡ relisted p from to t
-unfolding relistedBy relisted choose
+relisted-first : (k p from to : ℕ) (t : Table) → at t p .firstChild ≡ from → relistedWithin k p from to t ≡ relisted p from to t
+unfolding relistedWithin relisted choose
 relisted-first k p from to t e = rw (eqb-yes (at t p .firstChild) from e)
 
-replaced-first : (k p from to : ℕ) (t : Table) → at t p .firstChild ≡ from → replaceChildBy k p from to t ≡ replaceChild p from to t
-unfolding replaceChildBy replaceChild
+replaced-first : (k p from to : ℕ) (t : Table) → at t p .firstChild ≡ from → replaceChildWithin k p from to t ≡ replaceChild p from to t
+unfolding replaceChildWithin replaceChild
 replaced-first k p from to t e = rw (relisted-first k p from to t e)
 
 placed-first : (k b m : ℕ) (t : Table) → (up t m ≢ none → at (put t b (newBlossom m (at t m))) (up t m) .firstChild ≡ m) → blossomPlacedBy k b m t ≡ blossomPlaced b m t

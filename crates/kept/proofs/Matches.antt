@@ -6,8 +6,8 @@ use Prim.Native.Nat.{ℕ, _<_}
 use lib.Dec.{T}
 use Rattle.slot.specs.Number.{none, noVertex}
 use Rattle.slot.specs.Slot.{Link, Slot, mirror}
-use Rattle.table.specs.Table.{Table, at, put}
-use Rattle.table.proofs.Laws.{Full, at-put-same, at-put-other, put-full}
+use Rattle.table.specs.Table.{Table, at, put, Full}
+use Rattle.table.proofs.Laws.{at-put-same, at-put-other, put-full}
 use Rattle.nodes.specs.Nodes.{present, outer}
 use Rattle.rules.specs.Act.{say, change, _then_, alter}
 use Rattle.rules.specs.Slots.{next}
@@ -19,14 +19,9 @@ use Rattle.sound_facts.specs.Facts.{Core, Rest}
 use Rattle.sound_facts.proofs.ReflectSlots.{outer-present}
 use Rattle.sound_facts.proofs.KindLaws.{paired-back}
 use Rattle.sound_facts.proofs.Past.{outer-below}
-use Rattle.kept.proofs.Singles.{Single, Lone, lone-virtual, lone-paired, Alone, alone-single, no-peer, singles-apart, ends-lone}
-use Rattle.kept.proofs.Renewing.{of-none, Whole, Fits, Kept, kept-put, kept-then}
-
--- a full link from a to b: "A link's touch is a defect inside its node. Its peer touch is a defect inside the matched peer"
-pub record RightLink (t : Table) (a : ℕ) (l : Link) (b : ℕ) : Type 0 where
-  pub linked : FullLink l
-  pub touch : DefectInside t a (l .touch)
-  pub peer-touch : DefectInside t b (l .peerTouch)
+use Rattle.kept.specs.RuleFacts.{Single, Alone, Whole, RightLink}
+use Rattle.kept.proofs.Singles.{Lone, lone-virtual, lone-paired, alone-single, no-peer, singles-apart, ends-lone}
+use Rattle.kept.proofs.Renewing.{of-none, Fits, Kept, kept-put, kept-then}
 
 pub mirrored-full : (l : Link) → FullLink l → FullLink (mirror l)
 mirrored-full l f = record { has-touch = f .has-peer-touch; has-through = f .has-peer-through; has-peer-touch = f .has-touch; has-peer-through = f .has-through }

@@ -8,8 +8,7 @@ use lib.Dec.{T}
 use lib.ListN.{length}
 use Rattle.slot.specs.Number.{none}
 use Rattle.slot.specs.Slot.{Link, mirror, emptySlot}
-use Rattle.table.specs.Table.{Table, at}
-use Rattle.table.proofs.Laws.{Full}
+use Rattle.table.specs.Table.{Table, at, Full}
 use Rattle.nodes.specs.Nodes.{outer}
 use Rattle.rules.specs.Slots.{withParent, shaped, up, next}
 use Rattle.rules.specs.Matching.{matchedTo}
@@ -18,8 +17,8 @@ use Rattle.sound_facts.specs.Chain.{_∈_}
 use Rattle.sound_facts.specs.FactsOfNodes.{Minus}
 use Rattle.sound_facts.specs.FactsOfBlossoms.{InnerChild, DefectInside}
 use Rattle.sound_facts.proofs.Chains.{endOf}
-use Rattle.kept.proofs.Renewing.{Whole, SameCounts}
-use Rattle.kept.proofs.Matches.{RightLink}
+use Rattle.kept.specs.RuleFacts.{Whole, RightLink}
+use Rattle.kept.proofs.Renewing.{SameCounts}
 use Rattle.kept.proofs.ReadAs.{slotReadAs}
 
 -- the first of a list, or what stands for it

@@ -9,8 +9,7 @@ use lib.Dec.{T}
 use lib.ListN.{length}
 use Rattle.slot.specs.declared.state.State.the-variants as S
 use Rattle.slot.specs.Number.{none}
-use Rattle.table.specs.Table.{Table, at}
-use Rattle.table.proofs.Laws.{Full}
+use Rattle.table.specs.Table.{Table, at, Full}
 use Rattle.nodes.specs.Nodes.{outer}
 use Rattle.rules.specs.Slots.{up, next}
 use Rattle.rules.specs.Expansion.{stateBy}
@@ -18,8 +17,8 @@ use Rattle.sound_facts.specs.Chain.{_∈_}
 use Rattle.sound_facts.specs.FactsOfNodes.{Kind, minus-node, plus-node, OuterChild, Upward}
 use Rattle.sound_facts.proofs.Chains.{endOf}
 use Rattle.sound_facts.proofs.KindLaws.{kind-outer}
+use Rattle.kept.specs.RuleFacts.{RightLink}
 use Rattle.kept.proofs.Frames.{some-outer, next-upward}
-use Rattle.kept.proofs.Matches.{RightLink}
 use Rattle.kept.proofs.Opened.{headOr, Attached, AttachedDown, Opened}
 use Rattle.kept.proofs.OpenedPlaces.{by-state, child-hangs, child-plus, child-not-blossom, child-parent, parent-outer-node, parent-not-blossom, outer-state, outer-sibling, still-outer, still-none}
 

@@ -25,8 +25,8 @@ use Rattle.sound_facts.proofs.Chains.{chain-frame}
 use Rattle.sound_facts.proofs.Past.{present-some}
 use Rattle.sound_facts.proofs.KindLaws.{far-end-paired, far-end-tree, far-end-inner}
 use Rattle.sound_facts.proofs.RingLaws.{ring-first, inner-next}
-use Rattle.kept.proofs.Renewing.{Whole, of-none}
-use Rattle.kept.proofs.Matches.{RightLink}
+use Rattle.kept.specs.RuleFacts.{Whole, RightLink}
+use Rattle.kept.proofs.Renewing.{of-none}
 use Rattle.kept.proofs.ReadAs.{readAs, read-here, read-other}
 use Rattle.kept.proofs.Opened.{Opened}
 use Rattle.kept.proofs.OpenedPlaces.{Place, the-blossom, the-child, other-outer, is-attached, is-matched, no-part, place-of, blossom-outer, blossom-some, attached-inner, matched-inner, top-in, bottom-in, outer-or-inner, not-blossom, inner-some, child-hangs, child-not-blossom, parent-outer-node, parent-not-blossom, outer-state, outer-child, outer-sibling, outer-link, outer-ring, still-outer, outer-parent, child-parent, not-below, two-paired, matched-outer}

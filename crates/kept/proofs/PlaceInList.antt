@@ -9,8 +9,8 @@ use lib.Dec.{T}
 use lib.ListN.{length}
 use Rattle.slot.specs.Number.{none}
 use Rattle.slot.specs.Slot.{Slot}
-use Rattle.table.specs.Table.{Table, at, put}
-use Rattle.table.proofs.Laws.{Full, at-put-same, at-put-other, put-full}
+use Rattle.table.specs.Table.{Table, at, put, Full}
+use Rattle.table.proofs.Laws.{at-put-same, at-put-other, put-full}
 use Rattle.nodes.specs.Nodes.{outer}
 use Rattle.rules.specs.Act.{choose, alter}
 use Rattle.rules.specs.Slots.{withFirstChild, withSibling, up, next}
@@ -22,8 +22,9 @@ use Rattle.sound_facts.proofs.ReflectSlots.{stay-shrink}
 use Rattle.sound_facts.proofs.Chains.{chain-frame, chain-fits, chain-next, chain-nodup, chain-injective}
 use Rattle.sound_facts.proofs.Past.{outer-below}
 use Rattle.sound_facts.proofs.ChildLaws.{first-child, next-child}
+use Rattle.kept.specs.RuleFacts.{Whole}
 use Rattle.kept.proofs.Frames.{some-outer}
-use Rattle.kept.proofs.Renewing.{Whole, SameCounts, put-counts}
+use Rattle.kept.proofs.Renewing.{SameCounts, put-counts}
 use Rattle.kept.proofs.Cleared.{counts-then}
 use Rattle.kept.proofs.ReadAs.{readAs, slotReadAs, read-here, read-other}
 use Rattle.kept.proofs.OpenedCore.{chain-no-self, no-own-sibling}

@@ -12,25 +12,19 @@ use Rattle.slot.specs.declared.state.State.the-variants as S
 use Rattle.slot.specs.State.{isOuter, isInner}
 use Rattle.slot.specs.Number.{none}
 use Rattle.slot.specs.Slot.{Slot}
-use Rattle.table.specs.Table.{Table, at, put}
-use Rattle.table.proofs.Laws.{Full, at-put-same, at-put-other, put-full}
+use Rattle.table.specs.Table.{Table, at, put, Full}
+use Rattle.table.proofs.Laws.{at-put-same, at-put-other, put-full}
 use Rattle.nodes.specs.Nodes.{present, outer, inner}
 use Rattle.rules.specs.Act.{alter}
 use Rattle.rules.specs.Slots.{isSome, up}
 use Rattle.rules.specs.Sound.{nextInRing}
 use Rattle.sound_facts.specs.FactsOfBlossoms.{PresentBlossom, Ring, InBlossom, Inside, DefectInside, Touches}
-use Rattle.sound_facts.specs.Facts.{Sizes, Given, Pointers, Core, Rest}
+use Rattle.sound_facts.specs.Facts.{Sizes, Given, Pointers, Rest}
 use Rattle.sound_facts.proofs.Reflect.{same-or-not}
 use Rattle.sound_facts.proofs.ReflectSlots.{outer-present, outer-not-inner}
 use Rattle.sound_facts.proofs.Chains.{chain-frame}
 use Rattle.sound_facts.proofs.Climbing.{steps-frame}
 use Rattle.sound_facts.proofs.Past.{outer-below}
-
--- a sound table of 256 slots
-pub record Whole (t : Table) : Type 0 where
-  pub full : Full t
-  pub core : Core t
-  pub rest : Rest t
 
 -- what is asked only where there is a node is not asked of none
 pub of-none : {A : Type 0} → none ≢ none → A

@@ -6,14 +6,15 @@ use native.Mathlib.Omega.{arith}
 use lib.Dec.{T}
 use lib.ListN.{length-replicate, getD-replicate}
 use Rattle.slot.specs.Slot.{Slot, emptySlot}
-use Rattle.table.specs.Table.{Table, at}
-use Rattle.table.proofs.Laws.{Full, at-out}
+use Rattle.table.specs.Table.{Table, at, Full}
+use Rattle.table.proofs.Laws.{at-out}
 use Rattle.counts.specs.Making.{fresh, emptied}
 use Rattle.nodes.specs.Nodes.{present}
 use Rattle.sound_facts.specs.Facts.{Sizes, Pointers}
 use Rattle.sound_facts.specs.FactsOfBlossoms.{Touches}
 use Rattle.sound_facts.proofs.ReflectSlots.{outer-present, inner-present}
-use Rattle.kept.proofs.Renewing.{of-none, Whole}
+use Rattle.kept.specs.RuleFacts.{Whole}
+use Rattle.kept.proofs.Renewing.{of-none}
 
 pub fresh-full : (b : ℕ) → Full (fresh b)
 unfolding fresh

@@ -8,8 +8,7 @@ use lib.Dec.{T}
 use Rattle.slot.specs.declared.state.State.the-variants as S
 use Rattle.slot.specs.Number.{none, noVertex}
 use Rattle.slot.specs.Slot.{Link, mirror}
-use Rattle.table.specs.Table.{Table, at}
-use Rattle.table.proofs.Laws.{Full}
+use Rattle.table.specs.Table.{Table, at, Full}
 use Rattle.nodes.specs.Nodes.{outer}
 use Rattle.nodes.specs.declared.place.Place.{Place}
 use Rattle.nodes.specs.declared.place.Place.the-variants as P
@@ -24,10 +23,9 @@ use Rattle.sound_facts.specs.FactsOfBlossoms.{DefectInside}
 use Rattle.sound_facts.proofs.Reflect.{test-case, test-true, test-false, not↔}
 use Rattle.sound_facts.proofs.ReflectSlots.{stay-grow}
 use Rattle.sound_facts.proofs.KindLaws.{kind-place}
+use Rattle.kept.specs.RuleFacts.{alone-free, alone-virtual, Whole, RightLink, OneTree}
 use Rattle.kept.proofs.WaysUp.{sameTree↔}
-use Rattle.kept.proofs.Singles.{alone-free, alone-virtual}
-use Rattle.kept.proofs.Renewing.{Whole}
-use Rattle.kept.proofs.Matches.{RightLink, right-mirror, match-whole, virtual-whole}
+use Rattle.kept.proofs.Matches.{right-mirror, match-whole, virtual-whole}
 use Rattle.kept.proofs.Hanging.{hang-whole, grow-whole}
 use Rattle.kept.proofs.Rows.{alone-tree, tree-alone, tree-virtual, two-trees}
 
@@ -61,17 +59,6 @@ meet-table x y l t e = rw e
 one-table : (x y : ℕ) (l : Link) (t : Table) → sameTree t x y ≡ true → treesMeet x y l t .table ≡ blossomInTree x y l t .table
 unfolding treesMeet read choose
 one-table x y l t e = rw e
-
--- two different + nodes of one tree, and a right link between them
-pub record OneTree (t : Table) (x y : ℕ) (l : Link) : Type 0 where
-  pub whole : Whole t
-  pub two : x ≢ y
-  pub right : RightLink t x l y
-  pub grows-1 : at t x .state ≡ S.Grow
-  pub grows-2 : at t y .state ≡ S.Grow
-  pub place-1 : place (at t x) ≡ P.Tree
-  pub place-2 : place (at t y) ≡ P.Tree
-  pub same : T (sameTree t x y)
 
 module _ (t : Table) (x y : ℕ) (l : Link) (w : Whole t) (x≢y : x ≢ y) (right : RightLink t x l y) where
   y≢x : y ≢ x

@@ -6,8 +6,7 @@ use mathlib.Core.List.{List, [], _∷_, _++_}
 use Prim.Native.Nat.{ℕ, zero, suc, _+_, _%_, _≤_}
 use native.Mathlib.Omega.{arith}
 use lib.ListN.{length, length-append}
-use Rattle.table.specs.Table.{Table}
-use Rattle.table.proofs.Laws.{Full}
+use Rattle.table.specs.Table.{Table, Full}
 use Rattle.rules.specs.Slots.{next}
 use Rattle.sound_facts.specs.Chain.{_∈_, NoDup}
 use Rattle.sound_facts.specs.FactsOfBlossoms.{InnerChild, Ring}

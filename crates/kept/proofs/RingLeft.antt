@@ -8,8 +8,8 @@ use lib.Dec.{T}
 use lib.ListN.{length}
 use Rattle.slot.specs.Number.{none}
 use Rattle.slot.specs.Slot.{Link, Slot, mirror}
-use Rattle.table.specs.Table.{Table, at, put}
-use Rattle.table.proofs.Laws.{Full, at-put-same, at-put-other, put-full}
+use Rattle.table.specs.Table.{Table, at, put, Full}
+use Rattle.table.proofs.Laws.{at-put-same, at-put-other, put-full}
 use Rattle.nodes.specs.Nodes.{inner}
 use Rattle.rules.specs.Act.{skip, _then_, look}
 use Rattle.rules.specs.Slots.{shaped, next}
@@ -19,8 +19,9 @@ use Rattle.sound_facts.specs.Chain.{_∈_, NoDup}
 use Rattle.sound_facts.specs.Facts.{Rest}
 use Rattle.sound_facts.proofs.Chains.{endOf}
 use Rattle.sound_facts.proofs.Past.{inner-below}
+use Rattle.kept.specs.RuleFacts.{RightLink}
 use Rattle.kept.proofs.Renewing.{SameCounts, put-counts}
-use Rattle.kept.proofs.Matches.{RightLink, right-mirror, match-first, match-second, match-other, match-full}
+use Rattle.kept.proofs.Matches.{right-mirror, match-first, match-second, match-other, match-full}
 use Rattle.kept.proofs.Cleared.{counts-then, match-counts}
 use Rattle.kept.proofs.Opened.{headOr, Attached, AttachedDown, InTwo}
 use Rattle.kept.proofs.OpenedLimbs.{not-not}

@@ -20,9 +20,8 @@ use Rattle.sound_facts.proofs.Chains.{chain-nodup, chain-split, chain-unique, c
 use Rattle.sound_facts.proofs.ChildLaws.{shrink-is-minus, minus-only}
 use Rattle.sound_facts.proofs.OuterLists.{upward-outer}
 use Rattle.sound_facts.proofs.TouchLaws.{peer-touch-tree}
+use Rattle.kept.specs.RuleFacts.{Whole, RightLink}
 use Rattle.kept.proofs.Frames.{some-outer}
-use Rattle.kept.proofs.Renewing.{Whole}
-use Rattle.kept.proofs.Matches.{RightLink}
 use Rattle.kept.proofs.TwoPaths.{mark-next, mark-before, TwoPaths, limb, even-part}
 use Rattle.kept.proofs.MadeBlossom.{InTree}
 

@@ -12,8 +12,7 @@ use Rattle.rules.specs.Act.{Act, Did, _then_, read, choose}
 use Rattle.rules.specs.Slots.{next}
 use Rattle.rules.specs.Expansion.{stepsTo, matchChain, attachDown, attachUp, ringOpened}
 use Rattle.sound_facts.proofs.Reflect.{eqb-yes, eqb-no, same-or-not}
-use Rattle.kept.proofs.Renewing.{Whole}
-use Rattle.kept.proofs.Matches.{RightLink}
+use Rattle.kept.specs.RuleFacts.{Whole, RightLink}
 use Rattle.kept.proofs.RingStretches.{odd-half}
 use Rattle.kept.proofs.RingLoops.{then-same, twoByTwo, hungDown, hungUp, steps-are, match-chain-is, attach-down-is, attach-up-is}
 use Rattle.kept.proofs.RingCut.{CutRing, parts, cut-short, upper-apart, top-in-upper, even-half}

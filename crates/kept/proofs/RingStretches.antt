@@ -7,8 +7,7 @@ use native.Mathlib.Omega.{arith}
 use lib.Dec.{T}
 use lib.ListN.{length, length-append}
 use Rattle.slot.specs.Number.{none}
-use Rattle.table.specs.Table.{Table, at}
-use Rattle.table.proofs.Laws.{Full}
+use Rattle.table.specs.Table.{Table, at, Full}
 use Rattle.nodes.specs.Nodes.{inner}
 use Rattle.rules.specs.Slots.{next}
 use Rattle.rules.specs.Sound.{nextInRing}
@@ -19,7 +18,7 @@ use Rattle.sound_facts.proofs.Reflect.{same-or-not}
 use Rattle.sound_facts.proofs.Members.{Split, in-split, in-append→, in-left, in-right, nodup-append→, →nodup-append}
 use Rattle.sound_facts.proofs.RingLaws.{ring-goes-on, ring-comes-back, ring-some, ring-once}
 use Rattle.sound_facts.proofs.TouchLaws.{peer-touch-ring}
-use Rattle.kept.proofs.Matches.{RightLink}
+use Rattle.kept.specs.RuleFacts.{RightLink}
 use Rattle.kept.proofs.Opened.{headOr}
 
 -- from a along siblings through xs to e

@@ -9,16 +9,15 @@ use lib.Dec.{T}
 use lib.ListN.{length, length-append}
 use Rattle.slot.specs.Number.{none}
 use Rattle.slot.specs.Slot.{Link}
-use Rattle.table.specs.Table.{Table, at}
-use Rattle.table.proofs.Laws.{Full}
+use Rattle.table.specs.Table.{Table, at, Full}
 use Rattle.nodes.specs.Nodes.{inner}
 use Rattle.rules.specs.Slots.{next}
 use Rattle.sound_facts.specs.Chain.{_∈_, NoDup}
 use Rattle.sound_facts.specs.FactsOfBlossoms.{InnerChild}
 use Rattle.sound_facts.proofs.Members.{in-append→, in-left, in-right, →nodup-append}
 use Rattle.sound_facts.proofs.Chains.{endOf}
-use Rattle.kept.proofs.Renewing.{Whole, SameCounts}
-use Rattle.kept.proofs.Matches.{RightLink}
+use Rattle.kept.specs.RuleFacts.{Whole, RightLink}
+use Rattle.kept.proofs.Renewing.{SameCounts}
 use Rattle.kept.proofs.Cleared.{counts-then}
 use Rattle.kept.proofs.Opened.{headOr, AttachedDown, InTwo}
 use Rattle.kept.proofs.RingStretches.{Stretch, stretch-join}

@@ -7,8 +7,8 @@ use Prim.Native.Nat.{ℕ, zero, suc, _≤_, _<_}
 use native.Mathlib.Omega.{arith}
 use lib.ListN.{length}
 use Rattle.slot.specs.Slot.{Link, Slot, mirror}
-use Rattle.table.specs.Table.{Table, at}
-use Rattle.table.proofs.Laws.{Full, at-put-same, at-put-other}
+use Rattle.table.specs.Table.{Table, at, Full}
+use Rattle.table.proofs.Laws.{at-put-same, at-put-other}
 use Rattle.rules.specs.Act.{choose, alter}
 use Rattle.rules.specs.Slots.{up}
 use Rattle.rules.specs.Blossom.{enclosed, ringUp, ringDown}

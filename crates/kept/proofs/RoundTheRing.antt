@@ -13,7 +13,8 @@ use Rattle.rules.specs.Sound.{nextInRing}
 use Rattle.rules.specs.Blossom.{enclosed}
 use Rattle.sound_facts.specs.Chain.{_∈_, Chain}
 use Rattle.sound_facts.proofs.Reflect.{eqb-yes, eqb-no}
-use Rattle.kept.proofs.Matches.{RightLink, right-mirror}
+use Rattle.kept.specs.RuleFacts.{RightLink}
+use Rattle.kept.proofs.Matches.{right-mirror}
 use Rattle.kept.proofs.RingOfPaths.{onto}
 use Rattle.kept.proofs.Ringing.{Turned}
 

@@ -7,8 +7,8 @@ use lib.Dec.{T, eqb, eqb→eq, eqb-refl}
 use Rattle.slot.specs.declared.state.State.the-variants as S
 use Rattle.slot.specs.Number.{none, noVertex}
 use Rattle.slot.specs.Slot.{Link, Slot, mirror}
-use Rattle.table.specs.Table.{Table, at, put}
-use Rattle.table.proofs.Laws.{Full, at-put-same, at-put-other, put-full, table-ext}
+use Rattle.table.specs.Table.{Table, at, put, Full}
+use Rattle.table.proofs.Laws.{at-put-same, at-put-other, put-full, table-ext}
 use Rattle.nodes.specs.Nodes.{outer}
 use Rattle.rules.specs.Act.{alter}
 use Rattle.rules.specs.Slots.{up}
@@ -19,10 +19,11 @@ use Rattle.sound_facts.specs.FactsOfBlossoms.{DefectInside}
 use Rattle.sound_facts.proofs.Reflect.{tests, same-or-not}
 use Rattle.sound_facts.proofs.Past.{at-none, outer-below}
 use Rattle.sound_facts.proofs.ChildLaws.{above-outer}
+use Rattle.kept.specs.RuleFacts.{Alone, alone-free, alone-virtual, Whole, RightLink}
 use Rattle.kept.proofs.Frames.{some-outer}
-use Rattle.kept.proofs.Singles.{Alone, alone-free, alone-virtual, alone-single}
-use Rattle.kept.proofs.Renewing.{Whole, Kept, SameCounts, put-counts, kept-then}
-use Rattle.kept.proofs.Matches.{RightLink, right-kept, match-first, match-second, match-other, match-full, match-whole, virtualLink, virtual-table, virtual-whole}
+use Rattle.kept.proofs.Singles.{alone-single}
+use Rattle.kept.proofs.Renewing.{Kept, SameCounts, put-counts, kept-then}
+use Rattle.kept.proofs.Matches.{right-kept, match-first, match-second, match-other, match-full, match-whole, virtualLink, virtual-table, virtual-whole}
 use Rattle.kept.proofs.Cleared.{counts-then, match-counts}
 use Rattle.kept.proofs.Trimming.{Aside, counts-back, root-up}
 use Rattle.kept.proofs.Augmented.{Closed, single-closed, Augmented}

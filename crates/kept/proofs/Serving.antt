@@ -5,7 +5,7 @@ use Rattle.record.specs.declared.request.Request.{Request}
 use Rattle.rules.specs.Act.{World}
 use Rattle.rules.specs.Run.{Progress, room, served, runFrom}
 use Rattle.rules.proofs.RunInduction.{run-induction}
-use Rattle.kept.proofs.Renewing.{Whole}
+use Rattle.kept.specs.RuleFacts.{Whole}
 use Rattle.kept.proofs.Keeping.{answered-keeps}
 
 pub served-whole : (q : Request) (w : World) → Whole (w .table) → Whole (served q w .table)

@@ -6,8 +6,7 @@ use mathlib.Core.List.{List}
 use Prim.Native.Nat.{ℕ}
 use lib.Dec.{T}
 use Rattle.slot.specs.Number.{none}
-use Rattle.table.specs.Table.{Table, at}
-use Rattle.table.proofs.Laws.{Full}
+use Rattle.table.specs.Table.{Table, at, Full}
 use Rattle.nodes.specs.Nodes.{outer}
 use Rattle.rules.specs.Slots.{up, next}
 use Rattle.sound_facts.specs.Chain.{_∈_}
@@ -16,15 +15,10 @@ use Rattle.sound_facts.specs.Facts.{Core}
 use Rattle.sound_facts.proofs.ReflectSlots.{stay-grow}
 use Rattle.sound_facts.proofs.KindLaws.{paired-kind}
 use Rattle.sound_facts.proofs.ChildLaws.{no-child, first-child, next-child}
+use Rattle.kept.specs.RuleFacts.{Single, Alone, alone-free, alone-virtual}
 use Rattle.kept.proofs.Frames.{in-or-not, some-outer, Apart, core-apart, no-children, top-upward}
 
--- "An outer node with neither parent nor child"
-pub record Single (t : Table) (n : ℕ) : Type 0 where
-  pub outer : T (outer t n)
-  pub parentless : up t n ≡ none
-  pub childless : at t n .firstChild ≡ none
-
--- what such a node is by S3
+-- what a single node is by S3
 pub data Lone (t : Table) (n : ℕ) : Type 0 where
   lone-free : Free (at t n) → Lone t n
   lone-virtual : Virtual (at t n) → Lone t n
@@ -40,11 +34,6 @@ module _ {t : Table} {n : ℕ} where
   lone-single (lone-free f) = record { outer = rw (f .grows) tt; parentless = f .parentless; childless = f .childless }
   lone-single (lone-virtual v) = record { outer = rw (v .stays) tt; parentless = v .parentless; childless = v .childless }
   lone-single (lone-paired peer p) = record { outer = rw (p .here .stays) tt; parentless = p .here .parentless; childless = p .here .childless }
-
--- a single node that has no peer
-pub data Alone (t : Table) (n : ℕ) : Type 0 where
-  alone-free : Free (at t n) → Alone t n
-  alone-virtual : Virtual (at t n) → Alone t n
 
 pub alone-lone : {t : Table} {n : ℕ} → Alone t n → Lone t n
 alone-lone (alone-free f) = lone-free f

@@ -9,8 +9,8 @@ use lib.Dec.{T}
 use Rattle.slot.specs.declared.state.State.the-variants as S
 use Rattle.slot.specs.Number.{none}
 use Rattle.slot.specs.Slot.{Slot, noLink}
-use Rattle.table.specs.Table.{Table, at, put}
-use Rattle.table.proofs.Laws.{Full, at-put-same, at-put-other, put-full}
+use Rattle.table.specs.Table.{Table, at, put, Full}
+use Rattle.table.proofs.Laws.{at-put-same, at-put-other, put-full}
 use Rattle.nodes.specs.Nodes.{outer}
 use Rattle.rules.specs.Slots.{withFirstChild, shaped, up, next}
 use Rattle.sound_facts.specs.Chain.{_∈_, Chain}
@@ -21,9 +21,10 @@ use Rattle.sound_facts.proofs.ReflectSlots.{stay-grow, stay-shrink, grow-shrink
 use Rattle.sound_facts.proofs.Chains.{chain-frame, chain-nodup}
 use Rattle.sound_facts.proofs.Past.{outer-below}
 use Rattle.sound_facts.proofs.ChildLaws.{first-child, child-of-grow, child-of-shrink, minus-only}
+use Rattle.kept.specs.RuleFacts.{Below, Whole}
 use Rattle.kept.proofs.Frames.{in-or-not, some-outer, no-children, Pruned, pruned-chain, SeenAlike, core-frame}
-use Rattle.kept.proofs.Below.{Below, below-child, below-join, not-below-self}
-use Rattle.kept.proofs.Renewing.{of-none, Whole, Fits, Kept, SameCounts, kept-each}
+use Rattle.kept.proofs.Below.{below-child, below-join, not-below-self}
+use Rattle.kept.proofs.Renewing.{of-none, Fits, Kept, SameCounts, kept-each}
 
 abbrev pub freed : Slot → Slot
 freed s = shaped S.Grow none none none noLink s

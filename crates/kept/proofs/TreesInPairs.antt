@@ -6,8 +6,8 @@ use native.Mathlib.Omega.{arith}
 use lib.Dec.{T}
 use Rattle.slot.specs.declared.state.State.the-variants as S
 use Rattle.slot.specs.Number.{none}
-use Rattle.table.specs.Table.{Table, at, put}
-use Rattle.table.proofs.Laws.{Full, at-put-other, put-full}
+use Rattle.table.specs.Table.{Table, at, put, Full}
+use Rattle.table.proofs.Laws.{at-put-other, put-full}
 use Rattle.nodes.specs.Nodes.{outer}
 use Rattle.rules.specs.Act.{Act, _then_, look, alter}
 use Rattle.rules.specs.Slots.{withFirstChild}
@@ -17,11 +17,10 @@ use Rattle.sound_facts.specs.FactsOfNodes.{Paired, OuterChild}
 use Rattle.sound_facts.proofs.Reflect.{tests}
 use Rattle.sound_facts.proofs.ReflectSlots.{stay-grow}
 use Rattle.sound_facts.proofs.ChildLaws.{first-child, child-of-shrink, shrink-is-minus}
+use Rattle.kept.specs.RuleFacts.{Single, Whole, Below}
 use Rattle.kept.proofs.Frames.{some-outer}
-use Rattle.kept.proofs.Singles.{Single}
-use Rattle.kept.proofs.Renewing.{Whole}
 use Rattle.kept.proofs.Matches.{match-other, match-full, paired-frame}
-use Rattle.kept.proofs.Below.{Below, below-child, below-join, not-below-self, tied-most}
+use Rattle.kept.proofs.Below.{below-child, below-join, not-below-self, tied-most}
 use Rattle.kept.proofs.Subtrees.{then-same, siblings-alike}
 use Rattle.kept.proofs.Cleared.{Task}
 use Rattle.kept.proofs.Augmented.{Augmented}

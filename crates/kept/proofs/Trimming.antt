@@ -11,8 +11,8 @@ use lib.ListN.{length, length-append}
 use Rattle.slot.specs.declared.state.State.the-variants as S
 use Rattle.slot.specs.Number.{none}
 use Rattle.slot.specs.Slot.{Slot}
-use Rattle.table.specs.Table.{Table, at, put}
-use Rattle.table.proofs.Laws.{Full, at-put-same, at-put-other, put-full}
+use Rattle.table.specs.Table.{Table, at, put, Full}
+use Rattle.table.proofs.Laws.{at-put-same, at-put-other, put-full}
 use Rattle.nodes.specs.Nodes.{outer}
 use Rattle.rules.specs.Act.{change, _then_, look, alter}
 use Rattle.rules.specs.Slots.{withFirstChild, up}
@@ -24,11 +24,12 @@ use Rattle.sound_facts.proofs.Reflect.{same-or-not}
 use Rattle.sound_facts.proofs.Members.{in-split, split-length}
 use Rattle.sound_facts.proofs.Chains.{endOf, chain-frame, chain-split, chain-start}
 use Rattle.sound_facts.proofs.ChildLaws.{no-child, above-outer}
+use Rattle.kept.specs.RuleFacts.{Whole, Below}
 use Rattle.kept.proofs.WaysUp.{upward-chain, upward-step, upward-top, upward-is, root-is-end, root-above, root-shared}
 use Rattle.sound_facts.proofs.Past.{outer-below}
 use Rattle.kept.proofs.Frames.{in-or-not, some-outer, Pruned}
-use Rattle.kept.proofs.Renewing.{Whole, Kept, SameCounts, put-counts}
-use Rattle.kept.proofs.Below.{Below, below-join, top-not-below, not-below-self, below-longer, tied-most}
+use Rattle.kept.proofs.Renewing.{Kept, SameCounts, put-counts}
+use Rattle.kept.proofs.Below.{below-join, top-not-below, not-below-self, below-longer, tied-most}
 use Rattle.kept.proofs.Cleared.{Task, Ended, touched, untouched, Cleared, cleared-was, cleared-pruned, cleared-other, cleared-left, counts-then}
 use Rattle.kept.proofs.Subtrees.{siblings-clear, siblings-alike}
 

@@ -10,8 +10,7 @@ use lib.Dec.{T, T-not}
 use lib.ListN.{length}
 use Rattle.lists.specs.Choice.{pick}
 use Rattle.slot.specs.Number.{none}
-use Rattle.table.specs.Table.{Table, at}
-use Rattle.table.proofs.Laws.{Full}
+use Rattle.table.specs.Table.{Table, at, Full}
 use Rattle.nodes.specs.Nodes.{outer}
 use Rattle.rules.specs.Slots.{up}
 use Rattle.rules.specs.Walk.{isIn, firstShared}

@@ -10,8 +10,7 @@ use lib.ListN.{length}
 use Rattle.slot.specs.declared.state.State.the-variants as S
 use Rattle.slot.specs.Number.{none}
 use Rattle.slot.specs.Slot.{Slot}
-use Rattle.table.specs.Table.{Table, at}
-use Rattle.table.proofs.Laws.{Full}
+use Rattle.table.specs.Table.{Table, at, Full}
 use Rattle.nodes.specs.Nodes.{outer}
 use Rattle.rules.specs.Act.{skip, _then_, look, choose}
 use Rattle.rules.specs.Slots.{up}
@@ -20,9 +19,9 @@ use Rattle.rules.specs.Matching.{temporaryMatch, unlessNone, augmentSubtree, au
 use Rattle.sound_facts.specs.Chain.{Chain}
 use Rattle.sound_facts.proofs.Reflect.{same-or-not, eqb-yes, eqb-no}
 use Rattle.sound_facts.proofs.Past.{at-none}
+use Rattle.kept.specs.RuleFacts.{Whole}
 use Rattle.kept.proofs.WaysUp.{upward-chain, upward-short}
 use Rattle.kept.proofs.Frames.{some-outer}
-use Rattle.kept.proofs.Renewing.{Whole}
 use Rattle.kept.proofs.Subtrees.{then-same}
 use Rattle.kept.proofs.Trimming.{Aside, Trimmed, subtree-alike, trimmed, trimmed-way}
 use Rattle.kept.proofs.Augmented.{Augmented, augmented-top, Stem, stem, a-has-child}

@@ -1,10 +1,9 @@
 -- A sound table of 256 slots, by the tests and by the facts.
 use lib.Dec.{T}
-use Rattle.table.specs.Table.{Table}
-use Rattle.table.proofs.Laws.{Full}
+use Rattle.table.specs.Table.{Table, Full}
 use Rattle.rules.specs.Sound.{sound}
 use Rattle.sound_facts.proofs.SoundFacts.{sound→facts, facts→sound}
-use Rattle.kept.proofs.Renewing.{Whole}
+use Rattle.kept.specs.RuleFacts.{Whole}
 
 pub to-whole : (t : Table) → Full t → T (sound t) → Whole t
 to-whole t full s = let f = sound→facts t full s in record { full = full; core = f .core; rest = f .rest }

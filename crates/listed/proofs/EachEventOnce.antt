@@ -9,8 +9,7 @@ use lib.Dec.{T}
 use lib.ListN.{length, take, drop}
 use Rattle.lists.specs.Choice.{pick}
 use Rattle.slot.specs.declared.state.State.the-variants as S
-use Rattle.table.specs.Table.{Table, at}
-use Rattle.table.proofs.Laws.{Full}
+use Rattle.table.specs.Table.{Table, at, Full}
 use Rattle.nodes.specs.Nodes.{isBlossom, outer}
 use Rattle.nodes.specs.declared.place.Place.the-variants.{Paired, Virtual}
 use Rattle.nodes.specs.Place.{place}

@@ -10,8 +10,7 @@ use lib.Dec.{T, T-not, ltb→lt}
 use Rattle.lists.specs.Choice.{pick}
 use Rattle.slot.specs.declared.state.State.the-variants as S
 use Rattle.slot.specs.Number.{none}
-use Rattle.table.specs.Table.{Table, at}
-use Rattle.table.proofs.Laws.{Full}
+use Rattle.table.specs.Table.{Table, at, Full}
 use Rattle.nodes.specs.Nodes.{isDefect, present, outer}
 use Rattle.nodes.specs.Climb.{outerBlossom}
 use Rattle.rules.specs.Slots.{isStay, next}

@@ -8,8 +8,7 @@ use native.Mathlib.Omega.{arith}
 use lib.ListN.{length, take, drop, length-append}
 use Rattle.lists.specs.Choice.{pick}
 use Rattle.slot.specs.Slot.{Link}
-use Rattle.table.specs.Table.{Table, at}
-use Rattle.table.proofs.Laws.{Full}
+use Rattle.table.specs.Table.{Table, at, Full}
 use Rattle.nodes.specs.Nodes.{isDefect, present}
 use Rattle.nodes.specs.Climb.{outerBlossom}
 use Rattle.record.specs.declared.answer.Record.{Record}

@@ -5,8 +5,7 @@ use mathlib.Core.Logic.{_↔_, _⊎_, inl, inr}
 use Prim.Native.Nat.{ℕ, suc}
 use native.Mathlib.Omega.{arith}
 use Rattle.slot.specs.declared.state.State.the-variants as S
-use Rattle.table.specs.Table.{Table, at}
-use Rattle.table.proofs.Laws.{Full}
+use Rattle.table.specs.Table.{Table, at, Full}
 use Rattle.nodes.specs.declared.place.Place.{Place}
 use Rattle.nodes.specs.declared.place.Place.the-variants as P
 use Rattle.nodes.specs.Place.{place}

@@ -7,8 +7,7 @@ use native.Mathlib.Decide.{decLt}
 use native.Mathlib.Omega.{arith}
 use lib.Dec.{T, T-not, ltb, ltb→lt, lt→ltb}
 use Rattle.slot.specs.declared.state.State.the-variants as S
-use Rattle.table.specs.Table.{Table, at}
-use Rattle.table.proofs.Laws.{Full}
+use Rattle.table.specs.Table.{Table, at, Full}
 use Rattle.nodes.specs.Nodes.{outer}
 use Rattle.nodes.specs.declared.place.Place.{Place}
 use Rattle.nodes.specs.Place.{place}

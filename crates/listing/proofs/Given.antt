@@ -6,8 +6,7 @@ use mathlib.Core.Logic.{inl, inr}
 use Prim.Native.Nat.{ℕ, zero, suc, _+_, _-_, _≤_, _<_}
 use native.Mathlib.Omega.{arith}
 use lib.Dec.{ltb→lt}
-use Rattle.table.specs.Table.{Table, at}
-use Rattle.table.proofs.Laws.{Full}
+use Rattle.table.specs.Table.{Table, at, Full}
 use Rattle.counts.specs.Counts.{blossomEnd}
 use Rattle.nodes.specs.Nodes.{present, outer, isDefect}
 use Rattle.record.specs.declared.answer.Record.{Record}

@@ -23,7 +23,7 @@ use Rattle.sound_facts.specs.Facts.{Names}
 use Rattle.sound_facts.proofs.Reflect.{same-or-not}
 use Rattle.sound_facts.proofs.ReflectSlots.{inner-present}
 use Rattle.sound_facts.proofs.InsideLaws.{inside-present}
-use Rattle.kept.proofs.Renewing.{Whole}
+use Rattle.kept.specs.RuleFacts.{Whole}
 use Rattle.kept.proofs.AcceptedRequests.{acceptable, acceptable-expansion}
 use Rattle.kept.proofs.Expanding.{top-held, bottom-held}
 use Rattle.orders.proofs.Within.{Closed, Alike, Moved, alike-itself}

@@ -6,8 +6,8 @@ use lib.Dec.{T}
 use Rattle.slot.specs.State.{isPresent}
 use Rattle.slot.specs.Number.{none}
 use Rattle.slot.specs.Slot.{Link, Slot, mirror}
-use Rattle.table.specs.Table.{Table, at, put}
-use Rattle.table.proofs.Laws.{Full, put-full}
+use Rattle.table.specs.Table.{Table, at, put, Full}
+use Rattle.table.proofs.Laws.{put-full}
 use Rattle.nodes.specs.Nodes.{present}
 use Rattle.record.specs.declared.answer.Record.{Record}
 use Rattle.record.specs.declared.answer.Speed.the-variants as P

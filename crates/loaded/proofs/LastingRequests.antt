@@ -20,7 +20,7 @@ use Rattle.rules.specs.Matching.{temporaryMatch, temporaryMatchVirtual, augment
 use Rattle.rules.specs.Blossom.{lacksBlossomSlot}
 use Rattle.rules.specs.Conflict.{conflictLink, blossomInTree, treesMeet, rowOf, resolved, conflict, freed, virtualConflict}
 use Rattle.sound_facts.proofs.Reflect.{→and, test-case, test-true, test-false, not↔, ltb↔}
-use Rattle.kept.proofs.Renewing.{Whole}
+use Rattle.kept.specs.RuleFacts.{Whole}
 use Rattle.kept.proofs.Loading.{load-does}
 use Rattle.loaded.proofs.Lasting.{Has, Lasts, ActLasts, put-lasts, same-lasts, choose-lasts, skip-lasts, change-lasts, then-lasts, look-lasts, read-lasts, either-lasts, match-lasts, match-virtual-lasts, augment-lasts, grow-lasts, hang-lasts}
 use Rattle.loaded.proofs.LastingBlossom.{create-lasts}

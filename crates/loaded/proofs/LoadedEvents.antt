@@ -7,9 +7,8 @@ use Prim.Native.Nat.{ℕ, _-_, _≤_}
 use lib.Dec.{T}
 use lib.ListN.{length}
 use Rattle.lists.specs.Choice.{pick}
-use Rattle.table.specs.Table.{Table}
+use Rattle.table.specs.Table.{Table, Full}
 use Rattle.table.specs.Words.{tableOf}
-use Rattle.table.proofs.Laws.{Full}
 use Rattle.counts.specs.Making.{fresh}
 use Rattle.record.specs.declared.request.Request.{Request}
 use Rattle.record.specs.declared.request.Request.the-variants as Q

@@ -11,7 +11,8 @@ use Rattle.record.specs.Kinds.{layoutOf}
 use Rattle.record.specs.Records.{answerBytes}
 use Rattle.record.specs.Writing.{outOf, placed, written, writeAll}
 use Rattle.rules.specs.Act.{World}
-use Rattle.rules.proofs.Script.{join, border, after, all-rules}
+use Rattle.rules.specs.Script.{join, border, after}
+use Rattle.rules.proofs.Script.{all-rules}
 use Rattle.loaded.specs.Loaded.{Events, noEvents, loads, loadedBy}
 
 -- which of some numbers a set has

@@ -27,7 +27,7 @@ use Rattle.rules.specs.Run.{room, served}
 use Rattle.listed.specs.Named.{isPresentDefect}
 use Rattle.sound_facts.specs.Chain.{_∈_}
 use Rattle.sound_facts.proofs.Reflect.{test-true, ltb↔, isIn↔}
-use Rattle.kept.proofs.Renewing.{Whole}
+use Rattle.kept.specs.RuleFacts.{Whole}
 use Rattle.kept.proofs.Resetting.{fresh-at}
 use Rattle.kept.proofs.AcceptedRequests.{acceptable-expansion}
 use Rattle.orders.proofs.Within.{Moved}

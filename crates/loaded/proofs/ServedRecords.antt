@@ -8,7 +8,7 @@ use Rattle.rules.specs.Run.{Progress, room, served, runFrom, requestsOf}
 use Rattle.rules.proofs.RunInduction.{OfRuns, AtAStop, run-induction}
 use Rattle.rules.proofs.TapeRequests.{first-request}
 use Rattle.listed.specs.Named.{isPresentDefect}
-use Rattle.kept.proofs.Renewing.{Whole}
+use Rattle.kept.specs.RuleFacts.{Whole}
 use Rattle.kept.proofs.Serving.{served-whole}
 use Rattle.loaded.specs.Loaded.{Events, loadedAfter, servedAll, loadedBy}
 use Rattle.loaded.proofs.Presence.{served-present}

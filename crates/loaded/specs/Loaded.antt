@@ -5,14 +5,12 @@ use mathlib.Core.List.{List, [], _∷_}
 use Prim.Native.Nat.{ℕ}
 use Rattle.lists.specs.Choice.{pick}
 use Rattle.table.specs.Table.{Table}
-use Rattle.refusal.specs.declared.Verdict.{Verdict}
-use Rattle.refusal.specs.declared.Verdict.the-variants as W
 use Rattle.record.specs.declared.request.Request.{Request}
 use Rattle.record.specs.declared.request.Request.the-variants as Q
 use Rattle.rules.specs.Act.{World}
 use Rattle.rules.specs.Walk.{isIn}
 use Rattle.rules.specs.Trees.{isUnloaded}
-use Rattle.rules.specs.Calls.{verdict}
+use Rattle.rules.specs.Calls.{verdict, isAccepted}
 use Rattle.rules.specs.Run.{room, served}
 
 -- a set of events, as a test of their numbers
@@ -32,10 +30,6 @@ namedForLoading (Q.VirtualConflict c) = c .node .0 ∷ []
 namedForLoading (Q.Expansion e) = []
 namedForLoading Q.Reset = []
 namedForLoading Q.List = []
-
-abbrev pub isAccepted : Verdict → Bool
-isAccepted W.Accepted = true
-isAccepted (W.Refused n) = false
 
 abbrev pub isReset : Request → Bool
 isReset (Q.Conflict c) = false

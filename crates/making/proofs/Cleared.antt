@@ -7,8 +7,8 @@ use native.Mathlib.Numerals.{add-one}
 use lib.ListN.{length-replicate, getD-replicate}
 use Rattle.lists.proofs.Budget.{one-left, none-left}
 use Rattle.slot.specs.Slot.{Slot, emptySlot}
-use Rattle.table.specs.Table.{Table, at, put}
-use Rattle.table.proofs.Laws.{Full, at-put-same, at-put-other, at-out, put-full, table-ext}
+use Rattle.table.specs.Table.{Table, at, put, Full}
+use Rattle.table.proofs.Laws.{at-put-same, at-put-other, at-out, put-full, table-ext}
 use Rattle.counts.specs.Counts.{withDefects, withBlossoms}
 use Rattle.counts.specs.Making.{fresh, emptied}
 use Rattle.making.specs.Cleared.{cleared}

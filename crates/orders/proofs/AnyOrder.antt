@@ -4,14 +4,13 @@ use mathlib.Core.Path.{_≡_}
 use mathlib.Core.List.{List}
 use Prim.Native.Nat.{ℕ}
 use lib.Dec.{T}
-use Rattle.table.specs.Table.{Table}
-use Rattle.table.proofs.Laws.{Full}
+use Rattle.table.specs.Table.{Table, Full}
 use Rattle.record.specs.declared.request.Request.{Request}
 use Rattle.refusal.specs.declared.Verdict.the-variants as W
 use Rattle.rules.specs.Sound.{sound}
 use Rattle.rules.specs.Calls.{actOf, verdict}
 use Rattle.rules.specs.Concerns.{concerns, isMaking}
-use Rattle.kept.proofs.Renewing.{Whole}
+use Rattle.kept.specs.RuleFacts.{Whole}
 use Rattle.kept.proofs.Wholes.{to-whole}
 use Rattle.kept.proofs.Keeping.{act-keeps}
 use Rattle.rules.specs.Commands.{givesCommands}
@@ -38,29 +37,22 @@ module _ (t : Table) (full : Full t) (s : T (sound t))
   q-asked : Asked t q n
   q-asked = record { three = q-three; accepted = q-accepted }
 
-  -- the table after r, and the table after q
-  abbrev t₁ : Table
-  t₁ = actOf r t .table
-
-  abbrev t₂ : Table
-  t₂ = actOf q t .table
-
   -- in either order the same table: all slots and counts
-  pub either-order-table : actOf q t₁ .table ≡ actOf r t₂ .table
+  pub either-order-table : actOf q (actOf r t .table) .table ≡ actOf r (actOf q t .table) .table
   either-order-table = same-table t w r q m n r-asked q-asked (apart, one-making)
 
   -- .. and the same commands for each
-  pub r-commands : actOf r t₂ .said ≡ actOf r t .said
+  pub r-commands : actOf r (actOf q t .table) .said ≡ actOf r t .said
   r-commands = same-commands t w r q m n r-asked q-asked (apart, one-making)
 
-  pub q-commands : actOf q t₁ .said ≡ actOf q t .said
+  pub q-commands : actOf q (actOf r t .table) .said ≡ actOf q t .said
   q-commands = same-commands t w q r n m q-asked r-asked (apart-back t r q (apart, one-making))
 
   -- both are accepted in either order, since the first keeps the table sound
-  pub r-still-accepted : verdict r t₂ m ≡ W.Accepted
+  pub r-still-accepted : verdict r (actOf q t .table) m ≡ W.Accepted
   r-still-accepted = accepted-after t w r q m n r-asked q-asked (apart, one-making) (act-keeps q n t w q-accepted)
 
-  pub q-still-accepted : verdict q t₁ n ≡ W.Accepted
+  pub q-still-accepted : verdict q (actOf r t .table) n ≡ W.Accepted
   q-still-accepted = accepted-after t w q r n m q-asked r-asked (apart-back t r q (apart, one-making)) (act-keeps r m t w r-accepted)
 
 -- ---- any number of requests

@@ -32,7 +32,7 @@ use Rattle.sound_facts.proofs.Past.{outer-below}
 use Rattle.sound_facts.proofs.KindLaws.{present-case}
 use Rattle.sound_facts.proofs.RingLaws.{inner-parent-present, inner-next}
 use Rattle.sound_facts.proofs.InsideLaws.{inside-ring, inside-join, inside-ring-node, outer-blossom-outer, outer-blossom-holds, outer-blossom-is}
-use Rattle.kept.proofs.Renewing.{Whole}
+use Rattle.kept.specs.RuleFacts.{Whole}
 use Rattle.kept.proofs.Loading.{unloaded→}
 use Rattle.orders.proofs.Within.{In, Closed}
 use Rattle.orders.proofs.ConcernedNodes.{seen-loaded, concerned→, concerned-itself, concerned-held, concerned-outer, Held}

@@ -20,8 +20,8 @@ use Rattle.sound_facts.proofs.Reflect.{and→, →and, or→, →or, eq→eqb, 
 use Rattle.sound_facts.proofs.ReflectSlots.{outer-present, outer-not-inner}
 use Rattle.sound_facts.proofs.KindLaws.{kind-place}
 use Rattle.sound_facts.proofs.ChildLaws.{above-outer, outer-some, first-child, next-child, has-child}
+use Rattle.kept.specs.RuleFacts.{Whole}
 use Rattle.kept.proofs.WaysUp.{sameTree↔}
-use Rattle.kept.proofs.Renewing.{Whole}
 use Rattle.kept.proofs.Loading.{unloaded→}
 use Rattle.kept.proofs.Trimming.{root-up}
 

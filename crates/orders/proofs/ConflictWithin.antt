@@ -23,7 +23,7 @@ use Rattle.rules.specs.Blossom.{createBlossom}
 use Rattle.rules.specs.Conflict.{conflictLink, blossomInTree, treesMeet, rowOf, resolved, conflict, freed, virtualConflict}
 use Rattle.rules.specs.Refusals.{makesBlossom}
 use Rattle.sound_facts.proofs.Reflect.{→and, test-case, test-true, test-false, not↔}
-use Rattle.kept.proofs.Renewing.{Whole}
+use Rattle.kept.specs.RuleFacts.{Whole}
 use Rattle.kept.proofs.Loading.{load-does}
 use Rattle.orders.proofs.Within.{Alike, Moves, Acted, Acts, moved-none, put-moves, choose-moves, skip-acts, change-acts, then-acts, acted-then, acted-choose, look-acts}
 use Rattle.orders.proofs.ReadingWithin.{unloaded-alike, same-tree-alike, meeting-alike, meeting-in}

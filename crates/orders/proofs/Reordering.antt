@@ -8,7 +8,7 @@ use Rattle.record.specs.declared.request.Request.{Request}
 use Rattle.record.specs.declared.answer.Record.{Record}
 use Rattle.rules.specs.Act.{Did}
 use Rattle.rules.specs.Calls.{actOf, verdict, answered}
-use Rattle.kept.proofs.Renewing.{Whole}
+use Rattle.kept.specs.RuleFacts.{Whole}
 use Rattle.kept.proofs.Keeping.{act-keeps}
 use Rattle.orders.specs.Orders.{Asked, ApartIn, Ask, AllAsked, ApartFromAll, PairwiseApart, doneInOrder, AcceptedInOrder, Given, givenOn, givenInOrder, givenFirst, Reordered, as-it-is, neighbours, further-on, and-then}
 use Rattle.orders.proofs.Areas.{apart-back}

@@ -28,11 +28,11 @@ use Rattle.rules.specs.Concerns.{isMaking}
 use Rattle.sound_facts.proofs.ChildLaws.{first-child, shrink-is-minus, child-of-shrink}
 use Rattle.sound_facts.proofs.TouchLaws.{touch-inside, peer-touch-tree}
 use Rattle.sound_facts.proofs.ChildLaws.{outer-some}
-use Rattle.kept.proofs.Renewing.{Whole}
 use Rattle.orders.proofs.Within.{Alike, Acted}
 use Rattle.orders.proofs.ReadingWithin.{seen-alike, defect-inside-alike, same-tree-alike}
 use Rattle.orders.proofs.ConflictWithin.{conflict-acted, virtual-acts}
 use Rattle.orders.proofs.ExpansionWithin.{expansion-acted}
+use Rattle.kept.specs.RuleFacts.{Whole}
 use Rattle.kept.proofs.AcceptedRequests.{acceptable, acceptable-virtual, acceptable-expansion}
 use Rattle.rules.specs.Commands.{givesCommands}
 use Rattle.orders.proofs.Areas.{InArea, fresh, named-concerned, named-in, inside-in}

@@ -22,8 +22,8 @@ use Rattle.rules.specs.Concerns.{named, concernedAt, concerns, isMaking}
 use Rattle.sound_facts.proofs.Reflect.{and→, same-or-not}
 use Rattle.sound_facts.proofs.Chains.{chain-all}
 use Rattle.sound_facts.proofs.ChildLaws.{above-outer}
+use Rattle.kept.specs.RuleFacts.{Whole}
 use Rattle.kept.proofs.WaysUp.{upward-top, root-is-end}
-use Rattle.kept.proofs.Renewing.{Whole}
 use Rattle.kept.proofs.Trimming.{root-up}
 use Rattle.orders.proofs.Within.{Closed, Alike}
 use Rattle.orders.proofs.ReadingWithin.{seen-alike, root-alike, root-in, same-tree-alike}

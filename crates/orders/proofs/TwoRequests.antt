@@ -11,8 +11,8 @@ use Rattle.refusal.specs.declared.Verdict.the-variants as W
 use Rattle.record.specs.declared.request.Request.{Request}
 use Rattle.rules.specs.Calls.{actOf, verdict}
 use Rattle.rules.specs.Concerns.{isMaking}
+use Rattle.kept.specs.RuleFacts.{Whole}
 use Rattle.kept.proofs.Wholes.{from-whole}
-use Rattle.kept.proofs.Renewing.{Whole}
 use Rattle.orders.proofs.Within.{Alike, Moved, Acted, alike-itself}
 use Rattle.orders.specs.Orders.{Asked, ApartIn}
 use Rattle.orders.proofs.Areas.{InArea, in-area-or-not, area-closed, apart-back, areas-apart}

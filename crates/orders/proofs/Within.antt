@@ -10,8 +10,8 @@ use native.Mathlib.Omega.{arith}
 use lib.Dec.{T}
 use Rattle.slot.specs.Number.{none}
 use Rattle.slot.specs.Slot.{Slot}
-use Rattle.table.specs.Table.{Table, at, put}
-use Rattle.table.proofs.Laws.{Full, at-put-same, at-put-other, put-full, put-out}
+use Rattle.table.specs.Table.{Table, at, put, Full}
+use Rattle.table.proofs.Laws.{at-put-same, at-put-other, put-full, put-out}
 use Rattle.record.specs.declared.answer.Record.{Record}
 use Rattle.rules.specs.Act.{Did, Act, skip, say, change, _then_, look, choose, alter}
 use Rattle.sound_facts.proofs.Reflect.{same-or-not}

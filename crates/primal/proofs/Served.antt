@@ -5,6 +5,7 @@ use mathlib.Core.List.{List, [], _∷_, _++_}
 use Prim.Native.Nat.{ℕ, _-_}
 use lib.ListN.{length}
 use Rattle.table.specs.Words.{tableOf}
+use Rattle.table.specs.Table.{Full}
 use Rattle.refusal.specs.declared.Answer.{Answer}
 use Rattle.refusal.specs.declared.Answer.the-variants as A
 use Rattle.refusal.specs.declared.Verdict.{Verdict}
@@ -19,7 +20,6 @@ use Rattle.rules.specs.Act.{Act, World, worldOf, run, skip}
 use Rattle.rules.specs.Calls.{actOf, actBy, verdict, verdictNumber, answered}
 use Rattle.rules.specs.Run.{served}
 use Rattle.table.proofs.WordsOfSlots.{slots-length}
-use Rattle.table.proofs.Laws.{Full}
 use Rattle.sound_facts.proofs.Reflect.{test-true}
 use Rattle.kept.proofs.Kept.{served-keeps-sound}
 use Rattle.record.proofs.Written.{writeAll-append}

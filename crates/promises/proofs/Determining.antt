@@ -6,13 +6,13 @@ use Prim.Native.Nat.{ℕ}
 use lib.Dec.{T}
 use lib.ListN.{length}
 use Rattle.lists.specs.Choice.{pick}
-use Rattle.table.specs.Table.{Table, at}
+use Rattle.table.specs.Table.{Table, at, Undamaged}
 use Rattle.slot.specs.declared.state.State.the-variants as S
 use Rattle.slot.specs.Slot.{Slot}
 use native.Mathlib.Omega.{arith}
 use Rattle.table.specs.Words.{tableOf}
 use Rattle.table.proofs.WordsOfSlots.{slots-length}
-use Rattle.table.proofs.Determined.{Undamaged, words-determined}
+use Rattle.table.proofs.Determined.{words-determined}
 use Rattle.counts.specs.Making.{fresh}
 use Rattle.refusal.specs.declared.Answer.{Answer}
 use Rattle.refusal.specs.declared.Refusal.the-variants.{BadBegin}

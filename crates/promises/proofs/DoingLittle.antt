@@ -1,10 +1,10 @@
 -- "Nothing may pass by doing little": what lazy ports would answer, each held against the promise at some argument and computed
 -- there. The table is one of begin 128 as making leaves it, the room is 4,200 bytes.
 use mathlib.Core.Path.{_≡_, refl, ap, sym, _∙_}
-use mathlib.Core.List.{List, _++_}
+use mathlib.Core.List.{List}
 use Prim.Native.Nat.{ℕ}
 use native.Mathlib.Omega.{arith}
-use lib.ListN.{length, replicate}
+use lib.ListN.{length}
 use Rattle.slot.specs.declared.state.State.{State}
 use Rattle.slot.specs.declared.state.State.the-variants as S
 use Rattle.table.specs.Table.{Table, at}
@@ -15,7 +15,6 @@ use Rattle.refusal.specs.declared.Answer.the-variants as A
 use Rattle.refusal.specs.declared.Refusal.{Refusal}
 use Rattle.refusal.specs.declared.Verdict.the-variants as W
 use Rattle.record.specs.declared.request.Request.{Request}
-use Rattle.record.specs.declared.request.Request.the-variants as Q
 use Rattle.record.specs.Kinds.{layoutOf}
 use Rattle.record.specs.Records.{requestBytes, answerBytes}
 use Rattle.record.specs.Reading as reading
@@ -24,20 +23,12 @@ use Rattle.rules.specs.Run.{Ran, unsound, ran, runTape}
 use Rattle.outcome.specs.Tape.{HandsOut, Tape}
 use Rattle.rules.specs.Act.{World, worldOf}
 use Rattle.rules.specs.Calls.{actOf, verdict}
-use Rattle.rules.proofs.Script.{join, all-rules}
+use Rattle.rules.specs.Script.{join}
+use Rattle.rules.proofs.Script.{all-rules}
 use Rattle.outcome.specs.Call.{Call}
 use Rattle.refusal.specs.Refusal.{answerWritten}
+use Rattle.promises.specs.LazyPorts.{room, Fresh, tape}
 use Rattle.promises.proofs.Accepted.{done}
-
-unfoldable pub room : List ℕ
-room = replicate 4200 0
-
-abbrev pub Fresh : List ℕ → Type 0
-Fresh words = tableOf words ≡ fresh 128
-
--- conflict 0, 1, then list
-unfoldable pub tape : List ℕ
-tape = requestBytes (join 0 1) ++ requestBytes Q.List
 
 -- 1 in Stay and 0 elsewhere, to tell two tables apart
 abbrev isStaying : State → ℕ

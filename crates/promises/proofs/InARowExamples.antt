@@ -9,7 +9,8 @@ use Rattle.record.specs.Records.{requestBytes, answerBytes}
 use Rattle.record.specs.Reading as reading
 use Rattle.record.specs.Writing.{bytesOf}
 use Rattle.rules.specs.Run.{requestsOf}
-use Rattle.rules.proofs.Script.{meet, printed, all-rules}
+use Rattle.rules.specs.Script.{meet, printed}
+use Rattle.rules.proofs.Script.{all-rules}
 use Rattle.promises.specs.InARow.{tapeOf, answeredAndEnded, inARow}
 
 -- "conflict 0, 1 (touches 0, 1, vertices 10, 11), then list"

@@ -5,7 +5,7 @@ use Prim.Native.Nat.{ℕ, _-_, _≤_}
 use native.Mathlib.Nat.{sub-zero}
 use native.Mathlib.Omega.{arith}
 use lib.ListN.{length, drop}
-use Rattle.table.proofs.Laws.{Full}
+use Rattle.table.specs.Table.{Full}
 use Rattle.record.specs.declared.request.Request.{Request}
 use Rattle.record.specs.declared.answer.Record.{Record}
 use Rattle.record.specs.declared.answer.Record.the-variants as R
@@ -17,7 +17,7 @@ use Rattle.rules.specs.Calls.{verdict, verdictNumber, answered}
 use Rattle.rules.specs.Run.{room, served, runFrom, began, requestsOf}
 use Rattle.rules.proofs.RunInduction.{OfRuns, AtAStop, OverARecord, run-induction}
 use Rattle.rules.proofs.TapeRequests.{first-request}
-use Rattle.kept.proofs.Renewing.{Whole}
+use Rattle.kept.specs.RuleFacts.{Whole}
 use Rattle.kept.proofs.Serving.{served-whole}
 use Rattle.commands.proofs.AnsweredBytes.{bytes-joined, ended-fits}
 use Rattle.commands.proofs.CommandsFit.{verdict-in-a-run, served-written}

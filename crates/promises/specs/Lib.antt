@@ -1,3 +1,4 @@
 pub mod Lent
 pub mod InOrder
 pub mod InARow
+pub mod LazyPorts

@@ -8,10 +8,9 @@ use native.Mathlib.Nat.{sub-zero}
 use native.Mathlib.Omega.{arith}
 use native.Mathlib.Decide.{decLt}
 use Rattle.slot.specs.Slot.{emptySlot}
-use Rattle.table.specs.Table.{Table, at}
+use Rattle.table.specs.Table.{Table, at, Full}
 use Rattle.table.specs.Words.{tableOf}
 use Rattle.table.proofs.WordsOfSlots.{slots-length}
-use Rattle.table.proofs.Laws.{Full}
 use Rattle.counts.specs.Counts.{withDefects, withBlossoms, blossomEnd}
 use Rattle.counts.specs.Making.{emptied}
 use Rattle.making.specs.Cleared.{cleared}

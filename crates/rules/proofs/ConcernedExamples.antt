@@ -9,10 +9,9 @@ use Rattle.table.specs.Table.{Table}
 use Rattle.counts.specs.Making.{fresh}
 use Rattle.record.specs.declared.request.Request.{Request}
 use Rattle.rules.specs.Concerns.{concerns, isMaking}
-use Rattle.rules.proofs.Script.{join, border, open-up, after, all-rules}
-
-unfoldable pub mixture : List Request
-mixture = join 0 1 ∷ join 2 0 ∷ join 3 4 ∷ join 5 3 ∷ join 6 7 ∷ border 8 8 18 99 ∷ join 10 11 ∷ join 12 10 ∷ join 12 11 ∷ []
+use Rattle.rules.specs.Script.{join, border, open-up, after}
+use Rattle.rules.specs.Scenarios.{mixture}
+use Rattle.rules.proofs.Script.{all-rules}
 
 mixed : Table
 unfolding all-rules mixture

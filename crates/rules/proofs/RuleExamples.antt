@@ -5,17 +5,14 @@ use mathlib.Core.List.{List, [], _∷_, _++_}
 use Prim.Native.Nat.{ℕ}
 use Rattle.slot.specs.Number.{none}
 use Rattle.slot.specs.Slot.{Link}
-use Rattle.table.specs.Table.{Table, at}
-use Rattle.counts.specs.Making.{fresh}
-use Rattle.record.specs.declared.request.Request.{Request}
+use Rattle.table.specs.Table.{at}
 use Rattle.record.specs.declared.request.Request.the-variants as Q
 use Rattle.rules.specs.Act.{expand}
 use Rattle.rules.specs.Sound.{children, ringOf}
 use Rattle.rules.specs.Listing.{pairEntry, virtualEntry}
-use Rattle.rules.proofs.Script.{meet, join, border, open-up, after, ruleSays, stays, grows, shrinks, all-rules}
-
-unfoldable pub start : Table
-start = fresh 128
+use Rattle.rules.specs.Script.{meet, join, border, open-up, after, ruleSays, stays, grows, shrinks}
+use Rattle.rules.specs.Scenarios.{start, branches, bushy, ring-of-five, nested}
+use Rattle.rules.proofs.Script.{all-rules}
 
 link : ℕ → ℕ → ℕ → ℕ → Link
 link t v p w = record { touch = t; through = v; peerTouch = p; peerThrough = w }
@@ -54,10 +51,7 @@ child-list-order : (children (after (join 0 1 ∷ join 2 3 ∷ join 4 0 ∷ join
 unfolding all-rules start
 child-list-order = (refl, refl)
 
--- a tree with two branches at the root and two below, augmented at the + node in the middle
-unfoldable pub branches : List Request
-branches = join 0 1 ∷ join 2 3 ∷ join 4 0 ∷ join 4 2 ∷ join 6 7 ∷ join 8 9 ∷ join 1 6 ∷ join 1 8 ∷ []
-
+-- augmented at the + node in the middle
 augment-in-the-middle :
     ruleSays branches (join 1 5) start
     ≡ stays 9 ∷ stays 8 ∷ stays 7 ∷ stays 6 ∷ stays 3 ∷ stays 2 ∷ stays 1 ∷ stays 0 ∷ stays 0 ∷ stays 4 ∷ stays 1 ∷ stays 5 ∷ []
@@ -66,12 +60,7 @@ augment-in-the-middle = refl
 
 -- ---- making a blossom
 
--- both paths and a meeting node that is no root have children off the paths
-unfoldable pub bushy : List Request
-bushy =
-    join 0 1 ∷ join 4 0 ∷ join 2 3 ∷ join 6 7 ∷ join 8 9 ∷ join 10 11 ∷ join 12 13 ∷ join 14 15
-    ∷ join 1 2 ∷ join 1 6 ∷ join 1 8 ∷ join 3 10 ∷ join 7 12 ∷ join 3 14 ∷ join 3 7 ∷ []
-
+-- both paths and the meeting node have children off the paths
 children-moved :
     (ringOf (after bushy start) 128 ≡ 1 ∷ 6 ∷ 7 ∷ 3 ∷ 2 ∷ [])
     × (children (after bushy start) 128 ≡ 8 ∷ 12 ∷ 10 ∷ 14 ∷ [])
@@ -85,11 +74,6 @@ unfolding all-rules start bushy link
 meeting-link = refl
 
 -- ---- taking a blossom apart
-
--- a ring of five, 1, 6, 7, 3, 2, in a − blossom that stands second in its parent's list; its parent touches p, its child c
-unfoldable pub ring-of-five : ℕ → ℕ → List Request
-ring-of-five p c =
-    join 2 3 ∷ join 6 7 ∷ join 1 2 ∷ join 1 6 ∷ join 3 7 ∷ meet 128 20 c 20 30 31 ∷ join 22 23 ∷ meet 21 128 21 p 32 33 ∷ join 21 22 ∷ []
 
 -- two steps from P to C
 opened-even :
@@ -112,10 +96,6 @@ unfolding all-rules start ring-of-five
 opened-at-one = refl
 
 -- ---- listing
-
--- 128 is a ring of 2, 0, 1; 129 one of 128, 3, 4
-unfoldable pub nested : List Request
-nested = join 0 1 ∷ join 2 0 ∷ join 2 1 ∷ join 3 4 ∷ meet 128 3 1 3 11 13 ∷ meet 128 4 2 4 12 14 ∷ []
 
 -- touched in the inner blossom: its level first, then the level above
 listed-from-below :

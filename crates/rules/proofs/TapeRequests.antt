@@ -10,7 +10,7 @@ use Rattle.record.specs.Kinds.{layoutOf}
 use Rattle.record.specs.Records.{requestBytes}
 use Rattle.record.specs.Reading as reading
 use Rattle.rules.specs.Run.{Between, requestsOf}
-use Rattle.rules.proofs.Script.{join}
+use Rattle.rules.specs.Script.{join}
 
 pub first-request : (n : ℕ) (tape : List ℕ) (q : Request) (size : ℕ) → reading.read tape ≡ G.Request q size → requestsOf (suc n) tape ≡ q ∷ requestsOf n (drop size tape)
 unfolding requestsOf

@@ -1,5 +1,6 @@
 -- What each request answers: refused, and nothing changes; or accepted, and its rule is done.
 use Prim.Native.Nat.{ℕ}
+use mathlib.Core.Bool.{Bool, true, false}
 use mathlib.Core.List.{List}
 use Rattle.table.specs.Table.{Table}
 use Rattle.counts.specs.Making.{emptied}
@@ -40,6 +41,11 @@ verdict r t room = firstOf (checksOf r t room)
 abbrev pub actBy : Verdict → Request → Act
 actBy Accepted r = actOf r
 actBy (Refused n) r = skip
+
+-- whether a request is accepted: no refusal applies
+abbrev pub isAccepted : Verdict → Bool
+isAccepted Accepted = true
+isAccepted (Refused n) = false
 
 -- 0, or the refusal's number
 abbrev pub verdictNumber : Verdict → ℕ

@@ -13,3 +13,5 @@ pub mod Calls
 pub mod Concerns
 pub mod Run
 pub mod Commands
+pub mod Script
+pub mod Scenarios

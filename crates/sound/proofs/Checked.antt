@@ -14,9 +14,9 @@ use Rattle.slot.specs.declared.state.State.the-variants as S
 use Rattle.slot.specs.Number.{none}
 use Rattle.slot.specs.Slot.{Slot, emptySlot, noLink}
 use Rattle.slot.specs.State.{isOuter, isInner}
-use Rattle.table.specs.Table.{Table, at}
+use Rattle.table.specs.Table.{Table, at, Full}
 use Rattle.table.specs.Words.{tableOf, slotFrom}
-use Rattle.table.proofs.Laws.{Full, at-out}
+use Rattle.table.proofs.Laws.{at-out}
 use Rattle.nodes.specs.Nodes.{present, outer, inner}
 use Rattle.rules.specs.Slots.{isNone, sameLink, up}
 use Rattle.rules.specs.Walk.{ends}

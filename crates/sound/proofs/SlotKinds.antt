@@ -11,8 +11,7 @@ use Rattle.slot.specs.declared.state.State.the-variants as S
 use Rattle.slot.specs.Number.{none}
 use Rattle.slot.specs.Slot.{Link, Slot, emptySlot, noLink, mirror}
 use Rattle.slot.specs.State.{isPresent, isOuter}
-use Rattle.table.specs.Table.{Table, at}
-use Rattle.table.proofs.Laws.{Full}
+use Rattle.table.specs.Table.{Table, at, Full}
 use Rattle.nodes.specs.Nodes.{isBlossom, isDefect, present, outer, inner}
 use Rattle.nodes.specs.Climb.{inside}
 use Rattle.rules.specs.Slots.{isNone, isSome, sameLink, isGrow, isShrink, up, next}

@@ -9,8 +9,7 @@ use Rattle.slot.specs.declared.state.State.the-variants as S
 use Rattle.slot.specs.Number.{none}
 use Rattle.slot.specs.Slot.{Link, noLink, mirror}
 use Rattle.slot.specs.State.{isPresent}
-use Rattle.table.specs.Table.{Table, at}
-use Rattle.table.proofs.Laws.{Full}
+use Rattle.table.specs.Table.{Table, at, Full}
 use Rattle.nodes.specs.Nodes.{isBlossom, isDefect, outer, inner}
 use Rattle.nodes.specs.Climb.{inside}
 use Rattle.rules.specs.Slots.{isNone, isSome, sameLink, isStay, isGrow, isShrink, up, next}

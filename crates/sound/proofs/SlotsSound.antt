@@ -8,8 +8,7 @@ use Rattle.slot.specs.declared.state.State.{State}
 use Rattle.slot.specs.declared.state.State.the-variants as S
 use Rattle.slot.specs.Number.{none}
 use Rattle.slot.specs.Slot.{emptySlot}
-use Rattle.table.specs.Table.{Table, at}
-use Rattle.table.proofs.Laws.{Full}
+use Rattle.table.specs.Table.{Table, at, Full}
 use Rattle.nodes.specs.Nodes.{isBlossom, present, outer, inner}
 use Rattle.rules.specs.Slots.{isNone, isFull, up, next}
 use Rattle.rules.specs.Walk.{ends}

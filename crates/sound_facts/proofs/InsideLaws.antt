@@ -6,8 +6,7 @@ use Prim.Native.Nat.{ℕ, zero, suc, _+_, _≤_}
 use native.Mathlib.Omega.{arith}
 use lib.Dec.{T}
 use Rattle.lists.specs.Choice.{pick}
-use Rattle.table.specs.Table.{Table, at}
-use Rattle.table.proofs.Laws.{Full}
+use Rattle.table.specs.Table.{Table, at, Full}
 use Rattle.nodes.specs.Nodes.{present, outer, inner}
 use Rattle.nodes.specs.Climb.{outerBlossomWithin, outerBlossom, secondOuterWithin, secondOuterBlossom}
 use Rattle.rules.specs.Slots.{up}

@@ -6,8 +6,7 @@ use Prim.Native.Nat.{ℕ, _%_, _≤_, _<_}
 use lib.Dec.{T}
 use lib.ListN.{length}
 use Rattle.slot.specs.Number.{none}
-use Rattle.table.specs.Table.{Table, at}
-use Rattle.table.proofs.Laws.{Full}
+use Rattle.table.specs.Table.{Table, at, Full}
 use Rattle.nodes.specs.Nodes.{isBlossom, isDefect, present, outer, inner}
 use Rattle.nodes.specs.Climb.{inside}
 use Rattle.rules.specs.Slots.{isNone, isSome, isFull, up, next}

@@ -10,8 +10,7 @@ use Rattle.slot.specs.declared.state.State.the-variants as S
 use Rattle.slot.specs.State.{isOuter, isInner, isPresent}
 use Rattle.slot.specs.Number.{none}
 use Rattle.slot.specs.Slot.{Slot}
-use Rattle.table.specs.Table.{Table, at}
-use Rattle.table.proofs.Laws.{Full}
+use Rattle.table.specs.Table.{Table, at, Full}
 use Rattle.nodes.specs.Nodes.{present, outer, inner}
 use Rattle.rules.specs.Slots.{isNone, isSome, isGrow, isShrink, up, next}
 use Rattle.rules.specs.Sound.{farEnd}

@@ -6,8 +6,7 @@ use Prim.Native.Nat.{ℕ}
 use lib.Dec.{T, eqb, T-not}
 use Rattle.slot.specs.Number.{none}
 use Rattle.slot.specs.Slot.{Link, Slot, noLink, mirror}
-use Rattle.table.specs.Table.{Table, at}
-use Rattle.table.proofs.Laws.{Full}
+use Rattle.table.specs.Table.{Table, at, Full}
 use Rattle.nodes.specs.Nodes.{present, outer}
 use Rattle.rules.specs.Slots.{isNone, isSome, sameLink, isStay, isGrow, up, next}
 use Rattle.rules.specs.Sound.{isSingle, isFree, isTouched, isPaired, isVirtual, isRoot, isMinus, isPlus, s3, s4}

@@ -8,8 +8,8 @@ use lib.Dec.{T}
 use Rattle.slot.specs.declared.state.State.the-variants as S
 use Rattle.slot.specs.Number.{none}
 use Rattle.slot.specs.Slot.{Slot, emptySlot}
-use Rattle.table.specs.Table.{Table, at}
-use Rattle.table.proofs.Laws.{Full, at-out}
+use Rattle.table.specs.Table.{Table, at, Full}
+use Rattle.table.proofs.Laws.{at-out}
 use Rattle.nodes.specs.Nodes.{present, outer, inner}
 use Rattle.sound_facts.proofs.ReflectSlots.{outer-present, inner-present}
 

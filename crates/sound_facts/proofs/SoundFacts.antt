@@ -1,7 +1,6 @@
 -- The tests of `Sound` and the facts of `Facts` say the same of a table of 256 slots.
 use lib.Dec.{T}
-use Rattle.table.specs.Table.{Table}
-use Rattle.table.proofs.Laws.{Full}
+use Rattle.table.specs.Table.{Table, Full}
 use Rattle.rules.specs.Sound.{sound}
 use Rattle.sound_facts.specs.Facts.{Sound}
 use Rattle.sound_facts.proofs.SoundParts.{sound→core, sound→rest, parts→sound}

@@ -6,8 +6,8 @@ use Prim.Native.Nat.{ℕ, _≤_, _<_}
 use native.Mathlib.Decide.{decLt}
 use native.Mathlib.Omega.{arith}
 use lib.Dec.{T}
-use Rattle.table.specs.Table.{Table, at}
-use Rattle.table.proofs.Laws.{Full, at-out}
+use Rattle.table.specs.Table.{Table, at, Full}
+use Rattle.table.proofs.Laws.{at-out}
 use Rattle.nodes.specs.Nodes.{outer}
 use Rattle.rules.specs.Sound.{Rule, S1, S2, S3, S4, S5, S6, S7, S8, holds, allHold, sound, s1, s2, s3, s4, s5, s6, s7, s8}
 use Rattle.rules.specs.Slots.{up}

@@ -2,7 +2,7 @@
 use mathlib.Core.Path.{_≡_, refl, sym, ap, _∙_}
 use mathlib.Core.Logic.{_≢_}
 use mathlib.Core.List.{List}
-use Prim.Native.Nat.{ℕ, zero, suc, _+_, _*_, _-_, _%_, _/_, _^_, _≤_, _<_}
+use Prim.Native.Nat.{ℕ, zero, suc, _+_, _*_, _-_, _%_, _/_, _≤_, _<_}
 use native.Mathlib.Nat.{zero-add}
 use native.Mathlib.Decide.{decLt}
 use native.Mathlib.Omega.{arith}
@@ -14,16 +14,9 @@ use Rattle.slot.specs.declared.state.State.the-variants.{Damaged}
 use Rattle.slot.specs.State.{stateOf}
 use Rattle.slot.specs.Slot.{Slot}
 use Rattle.slot.proofs.Laws.{stateOf-damaged, markOf-stateOf, low-vertexFrom, high-vertexFrom}
-use Rattle.table.specs.Table.{Table, at}
-use Rattle.table.specs.Words.{tableOf, slotFrom, slotWords}
+use Rattle.table.specs.Table.{Table, at, Undamaged}
+use Rattle.table.specs.Words.{tableOf, slotFrom, slotWords, Words}
 use Rattle.table.proofs.WordsOfSlots.{at-words}
-
--- what the memory is known to hold: words of 16 bits
-abbrev pub Words : List ℕ → Type 0
-Words ws = (j : ℕ) → getD ws j 0 < 2 ^ 16
-
-abbrev pub Undamaged : Table → Type 0
-Undamaged t = (n : ℕ) → n < 256 → at t n .state ≢ Damaged
 
 mark-small : (mark : ℕ) → stateOf mark ≢ Damaged → mark ≤ 4
 mark-small mark h = go (decLt mark 5)

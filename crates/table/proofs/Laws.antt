@@ -3,14 +3,10 @@ use mathlib.Core.Path.{_≡_, sym, _∙_}
 use mathlib.Core.Logic.{_≢_}
 use Prim.Native.Nat.{ℕ, _≤_, _<_}
 use native.Mathlib.Omega.{arith}
-use lib.ListN.{length, length-set, List·getD-eq-default}
+use lib.ListN.{length-set, List·getD-eq-default}
 use lib.Seq.{getD-set-same, getD-set-other, set-set, set-comm, set-out, set-getD, ext-getD}
 use Rattle.slot.specs.Slot.{Slot, emptySlot}
-use Rattle.table.specs.Table.{Table, at, put}
-
--- a table as tables are: 256 slots
-abbrev pub Full : Table → Type 0
-Full t = length (t .slots) ≡ 256
+use Rattle.table.specs.Table.{Table, at, put, Full}
 
 module _ (t : Table) where
   -- what stands in a slot after a store, there and elsewhere

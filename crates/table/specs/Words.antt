@@ -1,5 +1,5 @@
 -- How the words of the lent memory are read as a table: eleven words a slot, then the three counts.
-use Prim.Native.Nat.{ℕ, _+_, _*_, _%_, _/_}
+use Prim.Native.Nat.{ℕ, _+_, _*_, _%_, _/_, _^_, _<_}
 use mathlib.Core.List.{List, [], _∷_, _++_}
 use lib.ListN.{getD}
 use Rattle.lists.specs.Count.{count}
@@ -7,6 +7,10 @@ use Rattle.slot.specs.Number.{vertexFrom}
 use Rattle.slot.specs.State.{stateOf, markOf}
 use Rattle.slot.specs.Slot.{Link, Slot}
 use Rattle.table.specs.Table.{Table}
+
+-- what the memory is known to hold: words of 16 bits
+abbrev pub Words : List ℕ → Type 0
+Words ws = (j : ℕ) → getD ws j 0 < 2 ^ 16
 
 -- touch, peer touch, through (low word, high word), peer through (low word, high word)
 abbrev pub linkFrom : List ℕ → ℕ → Link

@@ -10,9 +10,9 @@ use lib.ListN.{length}
 use borrow.Author.Tests.{eq-eqb, ne-eqb, eqb-true}
 use Rattle.slot.specs.Number.{none}
 use Rattle.slot.specs.Slot.{Slot}
-use Rattle.table.specs.Table.{Table, at}
+use Rattle.table.specs.Table.{Table, at, Full}
 use Rattle.table.specs.Words.{tableOf}
-use Rattle.table.proofs.Laws.{Full, at-out}
+use Rattle.table.proofs.Laws.{at-out}
 use Rattle.table.proofs.WordsOfSlots.{slots-length}
 use Rattle.rules.specs.Act.{choose}
 use Rattle.rules.specs.Slots.{up}

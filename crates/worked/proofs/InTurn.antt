@@ -11,12 +11,12 @@ use Rattle.refusal.specs.declared.Verdict.{Verdict}
 use Rattle.refusal.specs.declared.Verdict.the-variants.{Accepted, Refused}
 use Rattle.record.specs.declared.request.Request.{Request}
 use Rattle.rules.specs.Sound.{sound}
-use Rattle.rules.specs.Calls.{actOf, verdict, answered}
-use Rattle.rules.proofs.Script.{isAccepted, acceptedInTurn}
+use Rattle.rules.specs.Calls.{actOf, verdict, answered, isAccepted}
+use Rattle.rules.specs.Script.{acceptedInTurn}
 use Rattle.sound_facts.proofs.Reflect.{and↔, test-true, tests}
 use Rattle.outcome.specs.Handled.{laterVerdict}
 use Rattle.outcome.proofs.Verdicts.{sound-verdict}
-use Rattle.kept.proofs.Renewing.{Whole}
+use Rattle.kept.specs.RuleFacts.{Whole}
 use Rattle.kept.proofs.Wholes.{from-whole}
 use Rattle.kept.proofs.Resetting.{fresh-whole}
 use Rattle.kept.proofs.Keeping.{answered-keeps}

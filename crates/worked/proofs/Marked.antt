@@ -15,7 +15,8 @@ use Rattle.rules.specs.Act.{create, expand}
 use Rattle.rules.specs.Sound.{sound, ringOf, isSingle, isFree}
 use Rattle.rules.specs.Listing.{pairEntry, virtualEntry}
 use Rattle.rules.specs.Calls.{verdict, verdictNumber}
-use Rattle.rules.proofs.Script.{meet, border, open-up, after, acceptedInTurn, saysAfter, numberAfter, stays, grows, shrinks, all-rules}
+use Rattle.rules.specs.Script.{meet, border, open-up, after, acceptedInTurn, saysAfter, numberAfter, stays, grows, shrinks}
+use Rattle.rules.proofs.Script.{all-rules}
 
 link : ℕ → ℕ → ℕ → ℕ → Link
 link t v p w = record { touch = t; through = v; peerTouch = p; peerThrough = w }

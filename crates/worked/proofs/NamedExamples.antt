@@ -4,9 +4,10 @@ use mathlib.Core.Bool.{true, false}
 use mathlib.Core.List.{List, [], _∷_, _++_}
 use Rattle.record.specs.declared.request.Request.{Request}
 use Rattle.rules.specs.Listing.{listing}
+use Rattle.rules.specs.Script.{meet, join, border, after, acceptedInTurn}
+use Rattle.rules.specs.Scenarios.{start, nested}
 use Rattle.listed.specs.Named.{namedIn, one, times, isListed}
-use Rattle.rules.proofs.Script.{meet, join, border, after, acceptedInTurn, all-rules}
-use Rattle.rules.proofs.RuleExamples.{start, nested}
+use Rattle.rules.proofs.Script.{all-rules}
 use Rattle.outcome.specs.Handled.{laterVerdict}
 use Rattle.worked.proofs.InTurn.{acceptedLater, played}
 

@@ -4,18 +4,18 @@ use mathlib.Core.Path.{_≡_, refl}
 use mathlib.Core.Bool.{true}
 use mathlib.Core.List.{List, [], _∷_, _++_}
 use lib.Dec.{T}
-use Rattle.table.specs.Table.{Table, at}
-use Rattle.table.proofs.Laws.{Full}
+use Rattle.table.specs.Table.{Table, at, Full}
 use Rattle.counts.specs.Making.{fresh}
 use Rattle.record.specs.declared.request.Request.{Request}
 use Rattle.rules.specs.Act.{create, expand}
 use Rattle.rules.specs.Sound.{sound}
-use Rattle.rules.proofs.Script.{meet, join, border, open-up, after, acceptedInTurn, saysAfter, numberAfter, grows, shrinks, all-rules}
+use Rattle.rules.specs.Script.{meet, join, border, open-up, after, acceptedInTurn, saysAfter, numberAfter, grows, shrinks}
+use Rattle.rules.proofs.Script.{all-rules}
 use Rattle.outcome.specs.Handled.{laterVerdict}
 use Rattle.worked.proofs.InTurn.{acceptedLater, played}
-use Rattle.kept.proofs.Renewing.{Whole}
 use Rattle.orders.specs.Orders.{Ask, AllAsked, PairwiseApart}
 use Rattle.orders.proofs.Areas.{apart-by-test}
+use Rattle.kept.specs.RuleFacts.{Whole}
 use Rattle.kept.proofs.Wholes.{to-whole}
 
 -- trees 2, 0, 1 and 5, 3, 4; the blossom 128 of 8, 6, 7 as a − node below 10, with 9 below it

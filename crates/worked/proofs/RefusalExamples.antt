@@ -9,15 +9,13 @@ use Rattle.counts.specs.Making.{fresh}
 use Rattle.record.specs.declared.request.Request.{Request}
 use Rattle.record.specs.declared.request.Request.the-variants as Q
 use Rattle.rules.specs.Sound.{sound}
-use Rattle.rules.specs.Calls.{verdict, verdictNumber}
+use Rattle.rules.specs.Calls.{verdictNumber}
+use Rattle.rules.specs.Script.{meet, join, border, open-up, after, acceptedInTurn}
 use Rattle.outcome.specs.Handled.{laterVerdict}
 use Rattle.outcome.proofs.Verdicts.{sound-verdict}
-use Rattle.rules.proofs.Script.{meet, join, border, open-up, after, acceptedInTurn, all-rules}
+use Rattle.rules.proofs.Script.{all-rules}
+use Rattle.worked.specs.Told.{Gives, numberOn}
 use Rattle.worked.proofs.InTurn.{acceptedLater, played}
-
--- the number that a request is given on the table after some others, with so much room
-record Gives (room : ℕ) (rs : List Request) (r : Request) (n : ℕ) : Type 0 where
-  number : verdictNumber (verdict r (after rs (fresh 128)) room) ≡ n
 
 -- 0 and 1 matched; then 2 a root, 0 its − node, 1 below; then all three in the blossom 128
 pair : List Request
@@ -68,9 +66,6 @@ on-minus = given minus refl
 -- a node past its count
 unsound : Table
 unsound = put (fresh 128) 0 newNode
-
-numberOn : Table → ℕ → Request → ℕ
-numberOn t room r = verdictNumber (verdict r t room)
 
 -- 1: on the table above, for each request
 not-sound : (numberOn unsound 4096 (join 1 2) ≡ 1) × (numberOn unsound 4096 (border 1 1 11 99) ≡ 1) × (numberOn unsound 4096 (open-up 128) ≡ 1) × (numberOn unsound 4096 Q.Reset ≡ 1) × (numberOn unsound 4096 Q.List ≡ 1) × (numberOn (fresh 128) 0 Q.Reset ≡ 0)

@@ -5,9 +5,9 @@ use mathlib.Core.Bool.{true}
 use mathlib.Core.List.{[], _∷_, _++_}
 use Rattle.record.specs.declared.request.Request.the-variants as Q
 use Rattle.rules.specs.Sound.{sound}
-use Rattle.rules.proofs.Script.{meet, join, border, open-up, after, acceptedInTurn, all-rules}
-use Rattle.rules.proofs.RuleExamples.{start, branches, bushy, ring-of-five, nested}
-use Rattle.rules.proofs.ConcernedExamples.{mixture}
+use Rattle.rules.specs.Script.{meet, join, border, open-up, after, acceptedInTurn}
+use Rattle.rules.specs.Scenarios.{start, branches, bushy, ring-of-five, nested, mixture}
+use Rattle.rules.proofs.Script.{all-rules}
 use Rattle.outcome.specs.Handled.{laterVerdict}
 use Rattle.worked.proofs.InTurn.{acceptedLater, played}
 

@@ -2,7 +2,7 @@
 use mathlib.Core.Path.{_≡_, refl}
 use mathlib.Core.List.{List, [], _∷_, _++_}
 use Prim.Native.Nat.{ℕ}
-use lib.ListN.{length, take, replicate}
+use lib.ListN.{replicate}
 use Rattle.table.specs.Table.{put}
 use Rattle.slot.specs.Slot.{newNode}
 use Rattle.counts.specs.Making.{fresh}
@@ -12,8 +12,10 @@ use Rattle.record.specs.Records.{requestBytes, answerBytes}
 use Rattle.record.specs.Reading as reading
 use Rattle.record.specs.Writing.{outOf, placed, written, writeAll}
 use Rattle.rules.specs.Act.{World}
-use Rattle.rules.specs.Run.{Ran, unsound, ran, stopNumber, runTape}
-use Rattle.rules.proofs.Script.{meet, printed, all-rules}
+use Rattle.rules.specs.Run.{unsound, runTape}
+use Rattle.rules.specs.Script.{meet, printed}
+use Rattle.rules.proofs.Script.{all-rules}
+use Rattle.worked.specs.Told.{report, reported, bytesOf}
 
 -- conflict 0, 1 (touches 0, 1, vertices 10, 11), then list
 tape : List ℕ
@@ -21,24 +23,6 @@ tape = requestBytes (meet 0 1 0 1 10 11) ++ requestBytes Q.List
 
 world : ℕ → World
 world room = record { table = fresh 128; out = outOf (replicate room 0) 0 }
-
--- what a run reports: the stop, the records handled, the bytes written, how much of the tape is left
-pub record Report : Type 0 where
-  pub stop : ℕ
-  pub handled : ℕ
-  pub written : ℕ
-  pub unread : ℕ
-
-report : ℕ → ℕ → ℕ → ℕ → Report
-report s h w u = record { stop = s; handled = h; written = w; unread = u }
-
-reported : Ran → Report
-reported unsound = report 99 0 0 0
-reported (ran e) = report (stopNumber (e .stop)) (e .progress .handled) (e .progress .world .out .pos) (length (e .progress .rest))
-
-bytesOf : Ran → List ℕ
-bytesOf unsound = []
-bytesOf (ran e) = take (e .progress .world .out .pos) (e .progress .world .out .buf)
 
 program-answer : bytesOf (runTape 10 (world 4200) tape) ≡ printed
 unfolding all-rules tape world bytesOf printed requestBytes answerBytes layoutOf reading.read placed written writeAll

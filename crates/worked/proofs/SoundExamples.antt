@@ -13,8 +13,9 @@ use Rattle.record.specs.declared.request.Request.{Request}
 use Rattle.rules.specs.Act.{alter}
 use Rattle.rules.specs.Slots.{withState, withParent, withFirstChild, withSibling, shaped}
 use Rattle.rules.specs.Sound.{noFault, faultAt, firstFault, S1, S2, S3, S4, S5, S6, S7, S8}
-use Rattle.rules.proofs.Script.{meet, join, after, acceptedInTurn, all-rules}
-use Rattle.rules.proofs.RuleExamples.{nested}
+use Rattle.rules.specs.Script.{meet, join, after, acceptedInTurn}
+use Rattle.rules.specs.Scenarios.{nested}
+use Rattle.rules.proofs.Script.{all-rules}
 use Rattle.outcome.specs.Handled.{laterVerdict}
 use Rattle.worked.proofs.InTurn.{acceptedLater, played}
 

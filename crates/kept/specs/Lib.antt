@@ -1,0 +1,2 @@
+pub mod RuleFacts
+pub mod WithBudgets
