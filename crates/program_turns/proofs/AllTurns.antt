@@ -22,8 +22,8 @@ use Rattle.record.specs.Reading as reading
 use Rattle.record.specs.Writing.{bytesOf}
 use Rattle.record.proofs.Theorems.{read-bad-exactly}
 use Rattle.rules.specs.Sound.{sound}
-use Rattle.rules.specs.Run.{Between}
-use Rattle.promises.specs.InARow.{requestsOf, tapeOf, inARow}
+use Rattle.rules.specs.Run.{Between, requestsOf}
+use Rattle.promises.specs.InARow.{tapeOf, inARow}
 use Rattle.promises.proofs.SoundAfter.{made-is-sound}
 use Rattle.promises.proofs.TapeEnd.{before-rest}
 use Rattle.program.specs.declared.TurnEnd.{TurnEnd}

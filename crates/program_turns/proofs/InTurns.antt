@@ -17,8 +17,8 @@ use Rattle.record.specs.Records.{answerBytes}
 use Rattle.record.specs.Reading.{Bad}
 use Rattle.record.specs.Writing.{bytesOf}
 use Rattle.rules.specs.Sound.{sound}
-use Rattle.rules.specs.Run.{Between}
-use Rattle.promises.specs.InARow.{requestsOf, tapeOf, inARow}
+use Rattle.rules.specs.Run.{Between, requestsOf}
+use Rattle.promises.specs.InARow.{tapeOf, inARow}
 use Rattle.promises.proofs.TapeEnd.{before-rest}
 use Rattle.program.specs.declared.TurnEnd.the-variants.{GoesOn}
 use Rattle.program_turns.specs.Turns.{OneTurn, Turns, allWritten, allHandled, howMany, lastEnd, lastWords, lastRest, RestBy}

@@ -15,14 +15,14 @@ use Rattle.record.specs.Writing.{Out, outOf, writeAll, bytesOf}
 use Rattle.record.proofs.Written.{writeAll-append, writeAll-room, length-placed}
 use Rattle.rules.specs.Act.{World, worldOf, run}
 use Rattle.rules.specs.Sound.{sound}
-use Rattle.rules.specs.Run.{Stop, tapeEmpty, allowanceUsed, outputFull, badRecord, Progress, Ended, room, Ran, ran, runFrom, began, runTape, Between}
+use Rattle.rules.specs.Run.{Stop, tapeEmpty, allowanceUsed, outputFull, badRecord, Progress, Ended, room, Ran, ran, runFrom, began, runTape, Between, requestsOf}
 use Rattle.rules.proofs.RunCounts.{run-counts}
 use Rattle.sound_facts.proofs.Reflect.{test-true}
 use Rattle.kept.proofs.Wholes.{to-whole}
 use Rattle.kept.proofs.Kept.{run-keeps-sound}
 use Rattle.listed.proofs.ListingRoom.{run-written}
 use Rattle.commands.proofs.AnsweredBytes.{bytes-joined}
-use Rattle.promises.specs.InARow.{requestsOf, inARow}
+use Rattle.promises.specs.InARow.{inARow}
 use Rattle.promises.proofs.TapeEnd.{behind-records}
 use Rattle.promises.proofs.RunInARow.{run-in-row}
 use Rattle.program.specs.declared.TurnEnd.{TurnEnd}

@@ -12,8 +12,10 @@ use Rattle.record.specs.Kinds.{layoutOf}
 use Rattle.record.specs.Records.{requestBytes, answerBytes}
 use Rattle.record.specs.Reading as reading
 use Rattle.record.specs.Writing.{bytesOf}
-use Rattle.rules.proofs.Script.{meet, all-rules}
-use Rattle.promises.specs.InARow.{requestsOf, tapeOf, answeredAndEnded, inARow}
+use Rattle.rules.specs.Script.{meet}
+use Rattle.rules.proofs.Script.{all-rules}
+use Rattle.promises.specs.InARow.{tapeOf, answeredAndEnded, inARow}
+use Rattle.rules.specs.Run.{requestsOf}
 use Rattle.program.specs.Program.{usualBegin}
 use Rattle.program_turns.specs.Turns.{Turns, allWritten}
 use Rattle.program_turns.specs.Written.{programWrites}

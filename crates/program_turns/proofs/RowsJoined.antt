@@ -17,9 +17,9 @@ use Rattle.record.specs.Writing.{bytesOf}
 use Rattle.record.proofs.Codec.{bytes-drop}
 use Rattle.record.proofs.Theorems.{read-request, read-request-size}
 use Rattle.rules.specs.Act.{Act, Did, skip, _then_}
-use Rattle.rules.specs.Run.{Between}
-use Rattle.promises.specs.InARow.{requestsOf, answeredAndEnded, inARow}
-use Rattle.promises.proofs.TapeEnd.{first-read}
+use Rattle.rules.specs.Run.{Between, requestsOf}
+use Rattle.promises.specs.InARow.{answeredAndEnded, inARow}
+use Rattle.rules.proofs.TapeRequests.{first-request}
 
 -- ---- the tape
 
@@ -27,7 +27,7 @@ pub requests-joined : (n m : ℕ) (tape rest : List ℕ) → Between n tape rest
 unfolding requestsOf
 requests-joined zero m tape rest b = rw (zero-add, b)
 requests-joined (suc n) m tape rest (q, size, r, b) =
-    rw (suc-add, first-read (n + m) tape q size r, first-read n tape q size r) (ap (λ (qs : List Request). q ∷ qs) (requests-joined n m (drop size tape) rest b))
+    rw (suc-add, first-request (n + m) tape q size r, first-request n tape q size r) (ap (λ (qs : List Request). q ∷ qs) (requests-joined n m (drop size tape) rest b))
 
 pub between-joined : (n m : ℕ) (tape middle rest : List ℕ) → Between n tape middle → Between m middle rest → Between (n + m) tape rest
 between-joined zero m tape middle rest b c = rw (zero-add, b) c

@@ -9,7 +9,8 @@ use Rattle.record.specs.declared.request.Request.{Request}
 use Rattle.record.specs.declared.answer.Record.{Record}
 use Rattle.record.specs.declared.answer.Record.the-variants as R
 use Rattle.record.specs.Writing.{bytesOf}
-use Rattle.promises.specs.InARow.{requestsOf, tapeOf, inARow}
+use Rattle.promises.specs.InARow.{tapeOf, inARow}
+use Rattle.rules.specs.Run.{requestsOf}
 
 -- the requests of a tape, as far as it is good: they are fewer than its bytes
 abbrev pub allRequests : List ℕ → List Request
