@@ -12,7 +12,7 @@ use Rattle.lists.specs.Choice.{pick}
 use Rattle.table.specs.Words.{tableOf}
 use Rattle.counts.specs.Making.{fresh, beginFits, Made}
 use Rattle.refusal.specs.declared.Answer.the-variants as A
-use Rattle.refusal.specs.declared.Refusal.the-variants.{BadRecord, BadBegin}
+use Rattle.refusal.specs.declared.Refusal.the-variants.{BadRecord}
 use Rattle.refusal.specs.Refusal.{numberOf}
 use Rattle.record.specs.declared.request.Request.{Request}
 use Rattle.record.specs.declared.answer.Record.the-variants as R
@@ -25,6 +25,7 @@ use Rattle.rules.specs.Sound.{sound}
 use Rattle.rules.specs.Run.{Between, requestsOf}
 use Rattle.promises.specs.InARow.{tapeOf, inARow}
 use Rattle.promises.proofs.SoundAfter.{made-is-sound}
+use Rattle.promises.proofs.Determining.{MadeBy}
 use Rattle.promises.proofs.TapeEnd.{before-rest}
 use Rattle.program.specs.declared.TurnEnd.{TurnEnd}
 use Rattle.program.specs.declared.TurnEnd.the-variants.{TapeRead, GoesOn, BadTape, NotSound}
@@ -159,10 +160,10 @@ in-one begin n tape rest wrote end a b h e =
 
 made-by :
     (fits : Bool) (before : List ℕ) (b n : ℕ) (after : List ℕ)
-    → pick fits ((A.Done n ≡ A.Done 0) × (tableOf after ≡ fresh b)) ((A.Done n ≡ A.Refused BadBegin) × (after ≡ before))
+    → MadeBy fits before b (A.Done n) after
     → tableOf after ≡ fresh b
-made-by true before b n after h = h .1
-made-by false before b n after h = let e = h .0 in let z : _≡_ {A = ℕ} 0 1 = cc in absurd (omega arith)
+made-by true before b n after h = h .2
+made-by false before b n after h = absurd (omega (arith, h .0))
 
 made-fresh : (before : List ℕ) (b n : ℕ) (after : List ℕ) → Made before b (A.Done n) after → tableOf after ≡ fresh b
 made-fresh before b n after h = made-by (beginFits b) before b n after h

