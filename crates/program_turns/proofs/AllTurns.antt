@@ -3,7 +3,7 @@ use mathlib.Core.Path.{_≡_, refl, sym, ap, _∙_}
 use mathlib.Core.Bool.{Bool, true, false}
 use mathlib.Core.List.{List, [], _∷_, _++_, append-assoc, append-nil}
 use mathlib.Core.Logic.{inl}
-use Prim.Native.Nat.{ℕ, zero, suc, _+_, _-_, _≤_}
+use Prim.Native.Nat.{ℕ, zero, suc, _+_, _-_, _≤_, _<_}
 use native.Mathlib.Omega.{arith}
 use lib.Dec.{T}
 use lib.ListN.{length, drop}
@@ -20,6 +20,7 @@ use Rattle.record.specs.Fields.{AllBytes}
 use Rattle.record.specs.Records.{answerBytes}
 use Rattle.record.specs.Reading as reading
 use Rattle.record.specs.Writing.{bytesOf}
+use Rattle.record.proofs.Codec.{bytes-drop}
 use Rattle.record.proofs.Theorems.{read-bad-exactly}
 use Rattle.rules.specs.Sound.{sound}
 use Rattle.rules.specs.Run.{Between, requestsOf}
@@ -30,7 +31,7 @@ use Rattle.promises.proofs.TapeEnd.{before-rest}
 use Rattle.program.specs.declared.TurnEnd.{TurnEnd}
 use Rattle.program.specs.declared.TurnEnd.the-variants.{TapeRead, GoesOn, BadTape, NotSound}
 use Rattle.program.specs.Program.{lastRecords}
-use Rattle.program_turns.specs.Turns.{Turns, last, next, allWritten, allHandled, howMany, lastEnd, lastWords, lastRest, RestBy}
+use Rattle.program_turns.specs.Turns.{OneTurn, restAfter, Turns, last, next, allWritten, allHandled, howMany, lastEnd, lastWords, lastRest, RestBy}
 use Rattle.program_turns.specs.Written.{allRequests, endOfTape, programWrites}
 use Rattle.program_turns.proofs.RowsJoined.{requests-joined, between-joined, joined-table, joined-bytes, bytes-of-joined, four-each}
 use Rattle.program_turns.proofs.OneTurn.{RestOr, Left, turn-left}
@@ -89,6 +90,36 @@ turns-left {words} {tape} (last t n) s = alone words tape _ _ _ _ _ n (turn-left
 turns-left {words} {tape} (next t e ts) s =
     let h = going words tape _ _ _ _ _ e (turn-left words tape t s) in
     one-before words tape _ _ _ _ _ _ _ _ _ _ h (turns-left ts (h .sound-still))
+
+-- ---- turns come to an end
+
+shorter : (words tape words′ : List ℕ) (handled : ℕ) (rest wrote : List ℕ) → AllBytes tape → Left words tape words′ handled GoesOn rest wrote → length rest < length tape
+shorter words tape words′ handled rest wrote a h = omega (arith, four-each handled tape rest a (h .between), h .over)
+
+-- a turn, and if it goes on those after it
+and-then :
+    (words tape : List ℕ) (t : OneTurn words tape) (e : TurnEnd)
+    → t .told .end ≡ e
+    → (t .told .end ≡ GoesOn → Turns (t .words′) (restAfter t))
+    → Turns words tape
+and-then words tape t TapeRead e more = last t (λ f. let z : _≡_ {A = ℕ} 0 1 = cc in omega arith)
+and-then words tape t BadTape e more = last t (λ f. let z : _≡_ {A = ℕ} 0 1 = cc in omega arith)
+and-then words tape t NotSound e more = last t (λ f. let z : _≡_ {A = ℕ} 0 1 = cc in omega arith)
+and-then words tape t GoesOn e more = next t e (more e)
+
+pub ending-by :
+    (take-turn : (words tape : List ℕ) → OneTurn words tape) (k : ℕ) (words tape : List ℕ)
+    → length tape < k
+    → T (sound (tableOf words))
+    → AllBytes tape
+    → Turns words tape
+ending-by take-turn zero words tape l s a = absurd (omega arith)
+ending-by take-turn (suc k) words tape l s a =
+    let t = take-turn words tape in
+    and-then words tape t (t .told .end) refl
+    (λ e.
+    let h = going words tape _ _ _ _ _ e (turn-left words tape t s) in
+    ending-by take-turn k (t .words′) (restAfter t) (omega (arith, shorter words tape _ _ _ _ a h)) (h .sound-still) (bytes-drop (length tape - t .told .unread) tape a))
 
 -- ---- the rest, and what stands behind the answers
 

@@ -2,7 +2,7 @@
 -- turn's promise. The work is in the other files.
 use mathlib.Core.Path.{_≡_}
 use mathlib.Core.List.{List, [], _++_, append-nil}
-use Prim.Native.Nat.{ℕ, _+_, _*_, _≤_, _<_}
+use Prim.Native.Nat.{ℕ, suc, _+_, _*_, _≤_, _<_}
 use native.Mathlib.Omega.{arith}
 use lib.Dec.{T}
 use lib.ListN.{length}
@@ -25,11 +25,15 @@ use Rattle.program_turns.specs.Turns.{OneTurn, Turns, allWritten, allHan
 use Rattle.program_turns.specs.Written.{allRequests, programWrites}
 use Rattle.program_turns.proofs.RowsJoined.{four-each}
 use Rattle.program_turns.proofs.OneTurn.{turn-left}
-use Rattle.program_turns.proofs.AllTurns.{going, nothing-behind, end-behind, all-read, in-one, fresh-left}
+use Rattle.program_turns.proofs.AllTurns.{going, ending-by, nothing-behind, end-behind, all-read, in-one, fresh-left}
 
--- a turn that goes on handles at least one record, so turns come to an end
+-- a turn that goes on handles at least one record
 pub goes-on-handles : (words tape : List ℕ) (t : OneTurn words tape) → T (sound (tableOf words)) → t .told .end ≡ GoesOn → 0 < t .told .handled
 goes-on-handles words tape t s e = going words tape _ _ _ _ _ e (turn-left words tape t s) .over
+
+-- so turns come to an end, whoever takes them
+pub turns-end : (take-turn : (words tape : List ℕ) → OneTurn words tape) (words tape : List ℕ) → T (sound (tableOf words)) → AllBytes tape → Turns words tape
+turns-end take-turn words tape s a = ending-by take-turn (suc (length tape)) words tape (omega arith) s a
 
 -- turns on a table that was made, with any begin that making accepts; the program's is 128 (`usualBegin`)
 module _ (begin : ℕ) (before words tape : List ℕ) (made : Made before begin (A.Done 0) words) (ts : Turns words tape) where

@@ -59,7 +59,7 @@ abbrev pub lastRest : {words tape : List ℕ} → Turns words tape → List ℕ
 lastRest (last t over) = restAfter t
 lastRest (next t more ts) = lastRest ts
 
--- what the end says of the rest: "until the tape is empty or bad"
+-- what the end says of the rest: it is empty, or it begins with a bad record
 abbrev pub RestBy : TurnEnd → List ℕ → Type 0
 RestBy TapeRead rest = rest ≡ []
 RestBy BadTape rest = (rest ≡ [] → ⊥) × Bad rest
