@@ -123,28 +123,28 @@ module _ (j : ℕ) where
   siblings-lasts zero n = skip-lasts
   siblings-lasts (suc k) n = siblings-step k n (siblings-lasts k)
 
-  augment-subtree-lasts : (n : ℕ) → ActLasts (augmentSubtree n)
+  augment-subtree-lasts : (left n : ℕ) → ActLasts (augmentSubtree left n)
   unfolding augmentSubtree
-  augment-subtree-lasts n =
-      look-lasts n _ (λ s. then-lasts (change (alter n (withFirstChild none))) (matchSiblings 256 (s .firstChild)) (store-lasts n (withFirstChild none) (λ r p. p)) (siblings-lasts 256 (s .firstChild)))
+  augment-subtree-lasts left n =
+      look-lasts n _ (λ s. then-lasts (change (alter n (withFirstChild none))) (matchSiblings left (s .firstChild)) (store-lasts n (withFirstChild none) (λ r p. p)) (siblings-lasts left (s .firstChild)))
 
-  augment-step : (k n : ℕ) → ((a : ℕ) → ActLasts (augmentWithin k a)) → ActLasts (augmentWithin (suc k) n)
+  augment-step : (k left n : ℕ) → ((a : ℕ) → ActLasts (augmentWithin k left a)) → ActLasts (augmentWithin (suc k) left n)
   unfolding augmentWithin
-  augment-step k n ih =
-      then-lasts (augmentSubtree n) _ (augment-subtree-lasts n)
+  augment-step k left n ih =
+      then-lasts (augmentSubtree left n) _ (augment-subtree-lasts left n)
       (look-lasts n _
       (λ s.
       unless-lasts (s .parent) _
       (look-lasts (s .parent) _
-      (λ p. then-lasts (augmentWithin k (p .parent)) (temporaryMatch (s .parent) (p .link) (p .parent)) (ih (p .parent)) (match-lasts (s .parent) (p .link) (p .parent))))))
+      (λ p. then-lasts (augmentWithin k left (p .parent)) (temporaryMatch (s .parent) (p .link) (p .parent)) (ih (p .parent)) (match-lasts (s .parent) (p .link) (p .parent))))))
 
-  augment-within-lasts : (k n : ℕ) → ActLasts (augmentWithin k n)
+  augment-within-lasts : (k left n : ℕ) → ActLasts (augmentWithin k left n)
   unfolding augmentWithin
-  augment-within-lasts zero n = skip-lasts
-  augment-within-lasts (suc k) n = augment-step k n (augment-within-lasts k)
+  augment-within-lasts zero left n = skip-lasts
+  augment-within-lasts (suc k) left n = augment-step k left n (augment-within-lasts k left)
 
   pub augment-lasts : (n : ℕ) → ActLasts (augmentWholeTree n)
-  augment-lasts n = augment-within-lasts 256 n
+  augment-lasts n = augment-within-lasts 256 256 n
 
   -- ---- hanging a pair into a tree
 
