@@ -1,4 +1,4 @@
-/* Compares the port with the original, request by request, and its refusals with a second reading of document 01.
+/* Compares the port with the original, request by request, and its refusals with a second reading of the rules.
      compare ORIGINAL [SEED [REQUESTS]]
    ORIGINAL is the original's program (docs/DIFFERENCES.md). Requests are made up from SEED (1), until REQUESTS (250000) were
    accepted. Exit status: 0 nothing differs, 1 something differs, 2 a wrong call, or ORIGINAL does not run. */

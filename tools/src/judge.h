@@ -1,4 +1,4 @@
-/* A second reading of document 01: soundness, the numbers given back, and which row of the tables a request takes. Written for
+/* A second reading of the rules (docs/RULES-IN-WORDS.md): soundness, the numbers given back, and which row of the tables a request takes. Written for
    this comparison, straight from the sentences, in the simplest way and without regard to time. */
 #ifndef JUDGE_H
 #define JUDGE_H

@@ -1,4 +1,4 @@
-/* Writes tapes and the original's answers to them, for the crate `tapes_run`.
+/* Writes tapes and the original's answers to them, for the crate `test_tapes`.
      sample ORIGINAL DIR
    Each tape holds requests that 01 accepts, of one plan and one begin, with resets between shots. DIR gets NAME.tape and
    NAME.tape.answers; the cases for the crate's `stdin` go to standard output. Exit status: 0 all written, 1 the original stops within

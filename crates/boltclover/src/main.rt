@@ -1,7 +1,7 @@
 // The program of the rules: runs the tape on standard input, at most 65,536 bytes, on a fresh table of begin 128, or of the first
 // argument, and writes the answers to standard output. A tape that goes bad ends with an end record 12. A tape that is bad, or
 // longer, is named on standard error too. What is done with a tape is said of the crate `program`; here is its input and output.
-use command_line::Ending;
+use boltclover_shared::Ending;
 use libc::STDIN_FILENO;
 use program::Turn;
 use program::TurnEnd;
@@ -12,7 +12,7 @@ fn complain_of_record(at: usize, rest: &[u8]) {
     let mut space = io::buffer();
     let line: &mut [u8] = &mut space;
     let n = text::write_bad_record(line, 0, b"bad record", at as u64, rest);
-    command_line::complain_first(line, n);
+    boltclover_shared::complain_first(line, n);
 }
 
 fn end_bad_tape(tape: &[u8], unread: usize) -> Ending {
@@ -44,7 +44,7 @@ fn answer_once(t: &mut Table, tape: &[u8], unread: usize) -> Next {
     let out: &mut [u8] = &mut space;
     let turn = program::take_turn(t, program::rest(tape, unread), out);
     let next = what_follows(turn, tape);
-    if !command_line::write_first(out, turn.written) {
+    if !boltclover_shared::write_first(out, turn.written) {
         return Next::End(Ending::Badly);
     }
     next
@@ -76,7 +76,9 @@ fn is_longer() -> bool {
 
 // A tape that is longer was cut.
 fn end_cut_tape() -> Ending {
-    command_line::complain(b"longer than 65536 bytes, and what comes after them was not read\n");
+    boltclover_shared::complain(
+        b"longer than 65536 bytes, and what comes after them was not read\n",
+    );
     Ending::Badly
 }
 
@@ -94,13 +96,13 @@ fn answer_tape(t: &mut Table, tape: &[u8]) -> Ending {
 fn serve() -> Ending {
     let mut tape = io::large_buffer();
     let n = io::read_full(STDIN_FILENO, &mut tape);
-    let mut table = [0u16; 2819];
-    match primal::make(&mut table, command_line::begin(program::begin())) {
+    let mut table = [0u16; table::layout::WORDS];
+    match primal::make(&mut table, boltclover_shared::begin(program::begin())) {
         Answer::Done(_) => answer_tape(&mut table, &tape[..n]),
-        Answer::Refused(_) => command_line::end_bad_begin(),
+        Answer::Refused(_) => boltclover_shared::end_bad_begin(),
     }
 }
 
 fn main() {
-    command_line::end(serve());
+    boltclover_shared::end(serve());
 }

@@ -4,7 +4,7 @@
 mod print;
 mod turns;
 
-use command_line::Ending;
+use boltclover_shared::Ending;
 use refusal::Answer;
 use table::Table;
 
@@ -18,13 +18,13 @@ fn show(t: &mut Table) -> Ending {
 }
 
 fn show_from_begin() -> Ending {
-    let mut table = [0u16; 2819];
-    match primal::make(&mut table, command_line::begin(program::begin())) {
+    let mut table = [0u16; table::layout::WORDS];
+    match primal::make(&mut table, boltclover_shared::begin(program::begin())) {
         Answer::Done(_) => show(&mut table),
-        Answer::Refused(_) => command_line::end_bad_begin(),
+        Answer::Refused(_) => boltclover_shared::end_bad_begin(),
     }
 }
 
 fn main() {
-    command_line::end(show_from_begin());
+    boltclover_shared::end(show_from_begin());
 }

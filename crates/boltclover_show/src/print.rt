@@ -1,6 +1,6 @@
 // What is printed: a record with its answers, the fault of a bad one, the listing. Each function returns whether all of it could be
 // written.
-use command_line::Ending;
+use boltclover_shared::Ending;
 use record::Request;
 use refusal::Answer;
 use table::Table;
@@ -41,7 +41,7 @@ fn write_answers(
     if number == 0 {
         return write_lines(lines, pos, answers, written);
     }
-    explaining::write_refusal(lines, pos, t, request, number)
+    text_reasons::write_refusal(lines, pos, t, request, number)
 }
 
 // The request that stands first on the tape, in so many bytes, and what it answers.
@@ -66,7 +66,7 @@ pub fn record(t: &mut Table, tape: &[u8], size: usize, request: Request) -> bool
     );
     let p = write_lines(lines, 0, tape, size);
     let n = write_answers(lines, p, t, request, out, written);
-    command_line::write_first(lines, n)
+    boltclover_shared::write_first(lines, n)
 }
 
 // The bad record that stands first on the rest of a tape, at such a byte of it.
@@ -74,22 +74,22 @@ pub fn bad_record(at: u64, rest: &[u8]) {
     let mut space = io::buffer();
     let line: &mut [u8] = &mut space;
     let n = text::write_bad_record(line, 0, b"  refused 12", at, rest);
-    command_line::write_first(line, n);
+    boltclover_shared::write_first(line, n);
     let m = text::write_bad_record(line, 0, b"bad record", at, rest);
-    command_line::complain_first(line, m);
+    boltclover_shared::complain_first(line, m);
 }
 
 fn entries(out: &[u8], written: usize) -> bool {
     let mut space = [0u8; 16384];
     let lines: &mut [u8] = &mut space;
     let n = write_lines(lines, 0, out, written);
-    command_line::write_first(lines, n)
+    boltclover_shared::write_first(lines, n)
 }
 
 fn list(t: &Table) -> bool {
     let mut space = [0u8; 8192];
     let out: &mut [u8] = &mut space;
-    if !command_line::write_out(b"listing\n") {
+    if !boltclover_shared::write_out(b"listing\n") {
         return false;
     }
     match primal::list(t, out) {

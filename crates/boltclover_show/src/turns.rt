@@ -1,6 +1,6 @@
 // A tape of any length, read and served in turns of 65,536 bytes.
 use crate::print;
-use command_line::Ending;
+use boltclover_shared::Ending;
 use record::Reading;
 use table::Table;
 
@@ -89,7 +89,7 @@ pub fn show_tape(t: &mut Table) -> Ending {
     let mut start: u64 = 0;
     let mut turns = u64::MAX;
     while 0 < turns {
-        let n = command_line::read_behind(tape, have);
+        let n = boltclover_shared::read_behind(tape, have);
         let turn = show_turn(t, tape, n, start);
         if turn.ended == AT_END {
             return Ending::Well;
@@ -98,7 +98,7 @@ pub fn show_tape(t: &mut Table) -> Ending {
             return Ending::Badly;
         }
         start = place(start, turn.used);
-        have = command_line::keep_rest(tape, turn.used, n);
+        have = boltclover_shared::keep_rest(tape, turn.used, n);
         turns -= 1;
     }
     Ending::Badly

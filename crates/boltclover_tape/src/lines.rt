@@ -6,15 +6,15 @@ fn complain(number: u64, fault: Fault) {
     let mut space = io::buffer();
     let line: &mut [u8] = &mut space;
     let n = text::write_fault(line, 0, number, fault);
-    command_line::complain_first(line, n);
+    boltclover_shared::complain_first(line, n);
 }
 
 pub fn complain_of_length(number: u64) {
     let mut space = io::buffer();
     let line: &mut [u8] = &mut space;
     let p = text::write_named(line, 0, b"line ", number);
-    let n = decimals::write_bytes(line, p, b": longer than 65535 bytes\n");
-    command_line::complain_first(line, n);
+    let n = text::decimals::write_bytes(line, p, b": longer than 65535 bytes\n");
+    boltclover_shared::complain_first(line, n);
 }
 
 // Of a line that is bad: no record fills so many bytes.

@@ -3,12 +3,12 @@
 mod lines;
 mod turns;
 
-use command_line::Ending;
+use boltclover_shared::Ending;
 use turns::Count;
 
 fn write_count(line: &mut [u8], count: Count) -> usize {
     let p = text::write_named(line, 0, b"", count.bad);
-    decimals::write_bytes(
+    text::decimals::write_bytes(
         line,
         p,
         b" of its lines cannot be read, so no tape is written\n",
@@ -19,7 +19,7 @@ fn end_bad_text(count: Count) -> Ending {
     let mut space = io::buffer();
     let line: &mut [u8] = &mut space;
     let n = write_count(line, count);
-    command_line::complain_first(line, n);
+    boltclover_shared::complain_first(line, n);
     Ending::Badly
 }
 
@@ -35,5 +35,5 @@ fn make_tape() -> Ending {
 }
 
 fn main() {
-    command_line::end(make_tape());
+    boltclover_shared::end(make_tape());
 }

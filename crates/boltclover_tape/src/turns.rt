@@ -82,7 +82,7 @@ fn write_made(tape: &[u8], turn: Turn) -> bool {
     if 0 < turn.bad {
         return true;
     }
-    command_line::write_first(tape, turn.made)
+    boltclover_shared::write_first(tape, turn.made)
 }
 
 // The place of the first line feed among the first n bytes; or n.
@@ -100,7 +100,7 @@ fn pass_line(text: &mut [u8]) -> usize {
         let n = io::read_full(STDIN_FILENO, text);
         let end = line_end(text, n);
         if end < n {
-            return command_line::keep_rest(text, end + 1, n);
+            return boltclover_shared::keep_rest(text, end + 1, n);
         }
         if n < text.len() {
             return 0;
@@ -129,7 +129,7 @@ pub fn read_all() -> Count {
     };
     let mut turns = u64::MAX;
     while 0 < turns {
-        let n = command_line::read_behind(text, have);
+        let n = boltclover_shared::read_behind(text, have);
         let turn = read_turn(text, n, tape, count);
         count = Count {
             lines: turn.lines,
@@ -150,7 +150,7 @@ pub fn read_all() -> Count {
             };
             have = pass_long_line(text, count.lines);
         } else {
-            have = command_line::keep_rest(text, turn.used, n);
+            have = boltclover_shared::keep_rest(text, turn.used, n);
         }
         turns -= 1;
     }

@@ -6,7 +6,7 @@ use Prim.Native.Nat.{ℕ}
 use lib.ListN.{length}
 use Rattle.lists.specs.Choice.{pick}
 use Rattle.table.specs.Words.{tableOf}
-use Rattle.counts.specs.Making.{beginFits, fresh}
+use Rattle.table.specs.Making.{beginFits, fresh}
 use Rattle.refusal.specs.declared.Verdict.{Verdict}
 use Rattle.refusal.specs.declared.Verdict.the-variants as W
 use Rattle.refusal.specs.declared.Answer.the-variants as A
@@ -44,7 +44,7 @@ WasMade before b number after =
 abbrev pub oneIf : Bool → ℕ
 oneIf b = pick b 1 0
 
--- what a run hands out, the unread rest by its length: that rest is the tape's end (promises/proofs/UnreadRest)
+-- what a run hands out, the unread rest by its length: that rest is the tape's end (theorems_promises/proofs/UnreadRest)
 abbrev pub RanTape : Ran → List ℕ → List ℕ → List ℕ → ℕ → ℕ → ℕ → ℕ → ℕ → List ℕ → List ℕ → Type 0
 RanTape unsound words bytes tape number stop handled written unread words′ bytes′ =
     (number ≡ answerNumber (A.Refused NotSound))

@@ -20,11 +20,11 @@ use Rattle.record.specs.Reading as reading
 use Rattle.rules.specs.Act.{World, worldOf}
 use Rattle.rules.specs.Sound.{sound}
 use Rattle.rules.specs.Run.{Stop, tapeEmpty, allowanceUsed, outputFull, badRecord, stopNumber, Progress, stopped, room, served, began, runFrom, runTape}
-use Rattle.sound_facts.proofs.Reflect.{same-or-not}
-use Rattle.stopping.specs.declared.Next.{Next}
-use Rattle.stopping.specs.declared.Next.the-variants as N
-use Rattle.stopping.specs.Next.{nextOf}
-use Rattle.stopping.proofs.Steps as next
+use Rattle.theorems_soundness.proofs.Reflect.{same-or-not}
+use Rattle.primal.specs.declared.stopping.Next.{Next}
+use Rattle.primal.specs.declared.stopping.Next.the-variants as N
+use Rattle.primal.specs.Next.{nextOf}
+use Rattle.primal.proofs.StoppingSteps as next
 use Rattle.outcome.specs.Tape.{Tape}
 
 -- what `&l[n..]` is

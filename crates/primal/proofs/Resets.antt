@@ -4,7 +4,7 @@ use mathlib.Core.List.{List}
 use Prim.Native.Nat.{ℕ}
 use Rattle.table.specs.Table.{Table}
 use Rattle.table.specs.Words.{tableOf}
-use Rattle.counts.specs.Making.{emptied}
+use Rattle.table.specs.Making.{emptied}
 use Rattle.refusal.specs.declared.Verdict.the-variants as W
 use Rattle.record.specs.declared.request.Request.the-variants as Q
 use Rattle.record.specs.Writing.{outOf}

@@ -1,7 +1,9 @@
-// The public calls of document 01, and nothing else. None asks anything of its caller: any table, request, tape, buffer and
+// The public calls of the rules (docs/RULES-IN-WORDS.md), and nothing else. None asks anything of its caller: any table, request, tape, buffer and
 // position may be passed.
 mod serving;
+pub mod stopping;
 
+use crate::stopping::Next;
 use record::Conflict;
 use record::Expansion;
 use record::Reading;
@@ -10,11 +12,10 @@ use record::Request;
 use record::VirtualConflict;
 use refusal::Answer;
 use refusal::Refusal;
-use stopping::Next;
 use table::Table;
 ghost use mathlib.Core.Path.{_≡_};
 ghost use Rattle.table.specs.Words.{tableOf};
-ghost use Rattle.counts.specs.Making.{Made};
+ghost use Rattle.table.specs.Making.{Made};
 ghost use Rattle.record.specs.declared.request.Request.the-variants as Q;
 ghost use Rattle.record.specs.Records.{requestBytes, answerBytes};
 ghost use Rattle.record.specs.Reading.{Read};
@@ -27,7 +28,7 @@ ghost use Rattle.outcome.specs.Tape.{Tape};
 pub fn make(t: &mut Table, begin: u16) -> Answer
     ensures { λ r. ⌜ Made (now (t .entry)) begin r (now (t .exit)) ⌝ }
 {
-    making::make(t, begin)
+    table::making::make(t, begin)
 }
 
 // Reset: every slot empty and both counts 0, or refusal 1.
@@ -37,7 +38,7 @@ pub fn reset(t: &mut Table) -> Answer
     if !sound::is_sound(t) {
         return Answer::Refused(Refusal::NotSound);
     }
-    resetting::reset(t);
+    requests::resetting::reset(t);
     Answer::Done(0)
 }
 
@@ -55,7 +56,7 @@ pub fn conflict(t: &mut Table, out: &mut [u8], request: Conflict) -> Answer
     if !sound::is_sound(t) {
         return Answer::Refused(Refusal::NotSound);
     }
-    conflicts::conflict(t, out, 0, request)
+    requests::conflicts::conflict(t, out, 0, request)
 }
 
 pub fn virtual_conflict(t: &mut Table, out: &mut [u8], request: VirtualConflict) -> Answer
@@ -64,7 +65,7 @@ pub fn virtual_conflict(t: &mut Table, out: &mut [u8], request: VirtualConflict)
     if !sound::is_sound(t) {
         return Answer::Refused(Refusal::NotSound);
     }
-    virtual_conflicts::virtual_conflict(t, out, 0, request)
+    requests::virtual_conflicts::virtual_conflict(t, out, 0, request)
 }
 
 pub fn expand(t: &mut Table, out: &mut [u8], request: Expansion) -> Answer
@@ -73,7 +74,7 @@ pub fn expand(t: &mut Table, out: &mut [u8], request: Expansion) -> Answer
     if !sound::is_sound(t) {
         return Answer::Refused(Refusal::NotSound);
     }
-    expansion::expand(t, out, 0, request)
+    request_blossom::expansion::expand(t, out, 0, request)
 }
 
 // The listing. Done gives the bytes of its entries.
@@ -83,27 +84,27 @@ pub fn list(t: &Table, out: &mut [u8]) -> Answer
     if !sound::is_sound(t) {
         return Answer::Refused(Refusal::NotSound);
     }
-    listing::list(t, out, 0)
+    request_listing::list(t, out, 0)
 }
 
 // The request that stands first on a tape and the bytes that its record fills, or refusal 12.
 pub fn read_record(tape: &[u8]) -> Reading
     ensures { λ r. ⌜ Read (now (tape .entry)) r ⌝ }
 {
-    reading::read_record(tape)
+    record_reading::read_record(tape)
 }
 
 // A record written at a position of the lent bytes, or refusal 2.
 pub fn write_request(out: &mut [u8], pos: usize, request: Request) -> Answer
     ensures { λ r. ⌜ wroteOf (now (out .exit)) r ≡ wrote (outOf (now (out .entry)) pos) (requestBytes request) ⌝ }
 {
-    request_writing::write_request(out, pos, request)
+    record_writing::requests::write_request(out, pos, request)
 }
 
 pub fn write_answer(out: &mut [u8], pos: usize, answer: Record) -> Answer
     ensures { λ r. ⌜ wroteOf (now (out .exit)) r ≡ wrote (outOf (now (out .entry)) pos) (answerBytes answer) ⌝ }
 {
-    writing::write_answer(out, pos, answer)
+    record_writing::write_answer(out, pos, answer)
 }
 
 // The run: handles the tape's records, at most so many, and returns the tape's unread rest. The stop (0 to 3), the refusal (0, or
@@ -133,7 +134,7 @@ pub fn run<'a>(
     let mut pos: usize = 0;
     let mut count: u32 = 0;
     loop {
-        match stopping::what_next(rest, left, outcome::room(out, pos)) {
+        match crate::stopping::what_next(rest, left, outcome::room(out, pos)) {
             Next::Stop(number) => {
                 *stop = number;
                 *refusal = 0;

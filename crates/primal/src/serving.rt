@@ -18,43 +18,47 @@ fn end(out: &mut [u8], pos: usize, answer: Answer) -> usize
     ensures { λ r. ⌜ outOf (now (out .exit)) r ≡ written (outOf (now (out .entry)) (posAfter pos answer)) (answerBytes (R.End (answerNumber answer))) ⌝ }
 {
     match answer {
-        Answer::Done(after) => emitting::end(out, after, 0),
-        Answer::Refused(refusal) => emitting::end(out, pos, refusal::number(refusal)),
+        Answer::Done(after) => record_writing::answers::end(out, after, 0),
+        Answer::Refused(refusal) => record_writing::answers::end(
+            out,
+            pos,
+            refusal::number(refusal),
+        ),
     }
 }
 
 fn serve_conflict(t: &mut Table, out: &mut [u8], pos: usize, c: Conflict) -> usize
     ensures { λ r. ⌜ Serves (Q.Conflict c) pos (now (t .entry)) (now (out .entry)) r (now (t .exit)) (now (out .exit)) ⌝ }
 {
-    let answer = conflicts::conflict(t, out, pos, c);
+    let answer = requests::conflicts::conflict(t, out, pos, c);
     end(out, pos, answer)
 }
 
 fn serve_virtual_conflict(t: &mut Table, out: &mut [u8], pos: usize, c: VirtualConflict) -> usize
     ensures { λ r. ⌜ Serves (Q.VirtualConflict c) pos (now (t .entry)) (now (out .entry)) r (now (t .exit)) (now (out .exit)) ⌝ }
 {
-    let answer = virtual_conflicts::virtual_conflict(t, out, pos, c);
+    let answer = requests::virtual_conflicts::virtual_conflict(t, out, pos, c);
     end(out, pos, answer)
 }
 
 fn serve_expansion(t: &mut Table, out: &mut [u8], pos: usize, e: Expansion) -> usize
     ensures { λ r. ⌜ Serves (Q.Expansion e) pos (now (t .entry)) (now (out .entry)) r (now (t .exit)) (now (out .exit)) ⌝ }
 {
-    let answer = expansion::expand(t, out, pos, e);
+    let answer = request_blossom::expansion::expand(t, out, pos, e);
     end(out, pos, answer)
 }
 
 fn serve_reset(t: &mut Table, out: &mut [u8], pos: usize) -> usize
     ensures { λ r. ⌜ Serves Q.Reset pos (now (t .entry)) (now (out .entry)) r (now (t .exit)) (now (out .exit)) ⌝ }
 {
-    resetting::reset(t);
+    requests::resetting::reset(t);
     end(out, pos, Answer::Done(pos))
 }
 
 fn serve_list(t: &mut Table, out: &mut [u8], pos: usize) -> usize
     ensures { λ r. ⌜ Serves Q.List pos (now (t .entry)) (now (out .entry)) r (now (t .exit)) (now (out .exit)) ⌝ }
 {
-    let answer = listing::list(t, out, pos);
+    let answer = request_listing::list(t, out, pos);
     end(out, pos, answer)
 }
 

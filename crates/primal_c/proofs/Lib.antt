@@ -1,2 +1,1 @@
--- What the proofs of several calls use.
-mod Telling
+pub mod Telling

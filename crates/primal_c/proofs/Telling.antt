@@ -6,7 +6,7 @@ use Prim.Native.Nat.{ℕ}
 use lib.ListN.{length}
 use Rattle.lists.specs.Choice.{pick}
 use Rattle.table.specs.Words.{tableOf}
-use Rattle.counts.specs.Making.{beginFits, fresh, Made}
+use Rattle.table.specs.Making.{beginFits, fresh, Made}
 use Rattle.refusal.specs.declared.Answer.{Answer}
 use Rattle.refusal.specs.declared.Answer.the-variants.{Done, Refused}
 use Rattle.refusal.specs.declared.Refusal.the-variants.{BadBegin}
@@ -22,7 +22,7 @@ use Rattle.rules.specs.Run.{Ran, unsound, ran, runTape}
 use Rattle.outcome.specs.Handled.{Outcome}
 use Rattle.outcome.specs.Tape.{HandsOut, Tape}
 use Rattle.outcome.specs.Call.{Call, Reset}
-use Rattle.numbered.specs.Told.{Told}
+use Rattle.primal_c.specs.Told.{Told}
 use Rattle.outcome.specs.Numbered.{Numbered, Called, WasReset, WasMade, RanTape, Run}
 
 told-by :

@@ -1,5 +1,7 @@
 // The public calls for C and Rust, as `include/boltclover.h` declares them. Each passes its arguments to the call of the same
 // name in `primal` and tells the answer in numbers. A slice is a pointer and a length.
+pub mod numbered;
+
 use table::Table;
 ghost use mathlib.Core.Path.{_≡_};
 ghost use mathlib.Core.List.{[], _∷_};
@@ -46,9 +48,9 @@ pub extern "C" fn boltclover_conflict(
 ) -> u16
     ensures { λ r. ⌜ Called (Q.Conflict (conflictFrom (node_1 ∷ node_2 ∷ touch_1 ∷ touch_2 ∷ vertex_1 ∷ vertex_2 ∷ []))) (now (table .entry)) (now (out .entry)) r (now (written .exit)) (now (table .exit)) (now (out .exit)) ⌝ }
 {
-    let request = numbered::conflict(node_1, node_2, touch_1, touch_2, vertex_1, vertex_2);
+    let request = crate::numbered::conflict(node_1, node_2, touch_1, touch_2, vertex_1, vertex_2);
     let answer = primal::conflict(table, out, request);
-    numbered::tell(answer, written)
+    crate::numbered::tell(answer, written)
 }
 
 #[no_mangle]
@@ -63,9 +65,9 @@ pub extern "C" fn boltclover_virtual_conflict(
 ) -> u16
     ensures { λ r. ⌜ Called (Q.VirtualConflict (virtualFrom (node ∷ touch ∷ vertex ∷ «virtual_vertex» ∷ []))) (now (table .entry)) (now (out .entry)) r (now (written .exit)) (now (table .exit)) (now (out .exit)) ⌝ }
 {
-    let request = numbered::virtual_conflict(node, touch, vertex, virtual_vertex);
+    let request = crate::numbered::virtual_conflict(node, touch, vertex, virtual_vertex);
     let answer = primal::virtual_conflict(table, out, request);
-    numbered::tell(answer, written)
+    crate::numbered::tell(answer, written)
 }
 
 #[no_mangle]
@@ -77,9 +79,9 @@ pub extern "C" fn boltclover_expand(
 ) -> u16
     ensures { λ r. ⌜ Called (Q.Expansion (expansionFrom (node ∷ []))) (now (table .entry)) (now (out .entry)) r (now (written .exit)) (now (table .exit)) (now (out .exit)) ⌝ }
 {
-    let request = numbered::expansion(node);
+    let request = crate::numbered::expansion(node);
     let answer = primal::expand(table, out, request);
-    numbered::tell(answer, written)
+    crate::numbered::tell(answer, written)
 }
 
 #[no_mangle]
@@ -87,7 +89,7 @@ pub extern "C" fn boltclover_list(table: &Table, out: &mut [u8], written: &mut u
     ensures { λ r. ⌜ Called Q.List (now (table .entry)) (now (out .entry)) r (now (written .exit)) (now (table .entry)) (now (out .exit)) ⌝ }
 {
     let answer = primal::list(table, out);
-    numbered::tell(answer, written)
+    crate::numbered::tell(answer, written)
 }
 
 #[no_mangle]

@@ -3,7 +3,7 @@ use mathlib.Core.Path.{_≡_, refl}
 use mathlib.Core.List.{List, [], _∷_, _++_}
 use Prim.Native.Nat.{ℕ}
 use lib.ListN.{length, take, replicate}
-use Rattle.counts.specs.Making.{fresh}
+use Rattle.table.specs.Making.{fresh}
 use Rattle.record.specs.declared.request.Request.the-variants as Q
 use Rattle.record.specs.Kinds.{layoutOf}
 use Rattle.record.specs.Records.{requestBytes, answerBytes}

@@ -1,4 +1,4 @@
-// The program of document 01, on slices: what it does with a tape, without its input and output. `boltclover` reads the tape and
+// The program of the rules (docs/RULES-IN-WORDS.md), on slices: what it does with a tape, without its input and output. `boltclover` reads the tape and
 // writes the bytes.
 use refusal::Refusal;
 use table::Table;
@@ -66,7 +66,11 @@ fn close(out: &mut [u8], pos: usize, end: TurnEnd) -> usize
     match end {
         TurnEnd::TapeRead => pos,
         TurnEnd::GoesOn => pos,
-        TurnEnd::BadTape => emitting::end(out, pos, refusal::number(Refusal::BadRecord)),
+        TurnEnd::BadTape => record_writing::answers::end(
+            out,
+            pos,
+            refusal::number(Refusal::BadRecord),
+        ),
         TurnEnd::NotSound => pos,
     }
 }

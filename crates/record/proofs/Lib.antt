@@ -3,5 +3,5 @@ pub mod Written
 pub mod Codec
 pub mod Read
 pub mod ReadInNumbers
-pub mod Examples
+pub mod RecordExamples
 pub mod Theorems

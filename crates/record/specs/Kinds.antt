@@ -1,4 +1,4 @@
--- The kinds of records: each kind's number, the widths of its fields and so its length. "Records" of document 01.
+-- The kinds of records: each kind's number, the widths of its fields and so its length. 01, "Records".
 use Prim.Native.Nat.{ℕ, _+_}
 use mathlib.Core.List.{List, [], _∷_}
 use mathlib.Core.Bool.{Bool, true, false}

@@ -1,6 +1,7 @@
-// The records of document 01: their kinds, and the requests and answers that they carry.
+// The records of the rules (docs/RULES-IN-WORDS.md): their kinds, and the requests and answers that they carry.
 pub mod answer;
 pub mod kind;
+pub mod layout;
 pub mod request;
 
 pub use answer::Pair;

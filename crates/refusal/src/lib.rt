@@ -1,4 +1,4 @@
-// The numbers given back: every refusal of document 01, and the answer of a call that writes.
+// The numbers given back: every refusal of the rules (docs/RULES-IN-WORDS.md), and the answer of a call that writes.
 ghost use mathlib.Core.Path.{_≡_};
 ghost use Rattle.refusal.specs.Refusal.{numberOf, answerNumber, answerWritten};
 

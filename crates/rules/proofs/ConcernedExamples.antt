@@ -1,12 +1,12 @@
 -- What a request concerns, on a table with trees 2, 0, 1 and 5, 3, 4, the pair 6, 7, node 8 matched to a virtual vertex and the free
--- blossom 128 of 12, 10, 11. That the requests which make it are accepted is computed in `worked/proofs/RulesApply`.
+-- blossom 128 of 12, 10, 11. That the requests which make it are accepted is computed in `theorems_examples/proofs/RulesApply`.
 use mathlib.Core.Path.{_≡_, refl}
 use mathlib.Core.Bool.{true, false}
 use mathlib.Core.List.{List, [], _∷_}
 use Prim.Native.Nat.{ℕ}
 use Rattle.lists.specs.Choice.{pick}
 use Rattle.table.specs.Table.{Table}
-use Rattle.counts.specs.Making.{fresh}
+use Rattle.table.specs.Making.{fresh}
 use Rattle.record.specs.declared.request.Request.{Request}
 use Rattle.rules.specs.Concerns.{concerns, isMaking}
 use Rattle.rules.specs.Script.{join, border, open-up, after}

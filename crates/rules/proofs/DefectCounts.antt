@@ -4,7 +4,7 @@ use Prim.Native.Nat.{ℕ, zero, suc, _≤_}
 use native.Mathlib.Omega.{arith}
 use Rattle.lists.specs.Choice.{pick}
 use Rattle.table.specs.Table.{Table}
-use Rattle.nodes.specs.Nodes.{isDefect, present}
+use Rattle.table.specs.Nodes.{isDefect, present}
 use Rattle.rules.specs.Refusals.{defectAt, defectsBelow}
 
 -- 1 or 0, by a test

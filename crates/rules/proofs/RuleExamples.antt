@@ -1,5 +1,5 @@
 -- Worked examples about single rules. Each pins something that the examples of 01 leave open, and what it says was compared with the
--- original. That each of these requests is accepted, and what it leaves is sound, is computed in `worked/proofs/RulesApply`.
+-- original. That each of these requests is accepted, and what it leaves is sound, is computed in `theorems_examples/proofs/RulesApply`.
 use mathlib.Core.Path.{_≡_, refl}
 use mathlib.Core.List.{List, [], _∷_, _++_}
 use Prim.Native.Nat.{ℕ}

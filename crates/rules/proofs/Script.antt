@@ -1,9 +1,9 @@
 -- How the worked examples are computed. The language that they are written in is specs/Script.
-use Rattle.counts.specs.Making.{fresh}
+use Rattle.table.specs.Making.{fresh}
 use Rattle.table.specs.Table.{at, put}
-use Rattle.counts.specs.Counts.{withDefects, withBlossoms}
-use Rattle.nodes.specs.Place.{place}
-use Rattle.nodes.specs.Climb.{insideWithin, outerBlossomWithin, secondOuterWithin}
+use Rattle.table.specs.Counts.{withDefects, withBlossoms}
+use Rattle.table.specs.Place.{place}
+use Rattle.table.specs.Climb.{insideWithin, outerBlossomWithin, secondOuterWithin}
 use Rattle.rules.specs.Act.{skip, say, change, _then_, look, read, choose, alter}
 use Rattle.rules.specs.Walk.{walk, ends, isIn, allIn, allBelow, firstShared}
 use Rattle.rules.specs.Sound.{s1, s2, s3, s4, s5, s6, s7, s8, allHold, sound, lowestFault, firstFaultOf}

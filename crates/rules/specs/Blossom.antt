@@ -6,7 +6,7 @@ use Rattle.slot.specs.declared.state.State.the-variants as S
 use Rattle.slot.specs.Number.{none}
 use Rattle.slot.specs.Slot.{Link, Slot, mirror}
 use Rattle.table.specs.Table.{Table, at, put}
-use Rattle.counts.specs.Counts.{withBlossoms}
+use Rattle.table.specs.Counts.{withBlossoms}
 use Rattle.rules.specs.Act.{Act, say, change, _then_, choose, alter, same, create}
 use Rattle.rules.specs.Slots.{withParent, withFirstChild, withSibling, shaped, isNone, up, next}
 

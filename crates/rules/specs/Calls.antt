@@ -3,7 +3,7 @@ use Prim.Native.Nat.{ℕ}
 use mathlib.Core.Bool.{Bool, true, false}
 use mathlib.Core.List.{List}
 use Rattle.table.specs.Table.{Table}
-use Rattle.counts.specs.Making.{emptied}
+use Rattle.table.specs.Making.{emptied}
 use Rattle.record.specs.declared.request.Request.{Request}
 use Rattle.record.specs.declared.request.Request.the-variants as Q
 use Rattle.refusal.specs.declared.Verdict.{Verdict}

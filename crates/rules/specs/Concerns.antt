@@ -8,9 +8,9 @@ use Rattle.slot.specs.State.{isOuter}
 use Rattle.table.specs.Table.{Table}
 use Rattle.record.specs.declared.request.Request.{Request}
 use Rattle.record.specs.declared.request.Request.the-variants as Q
-use Rattle.nodes.specs.declared.place.Place.{Place}
-use Rattle.nodes.specs.declared.place.Place.the-variants.{Free, Paired, Virtual, Tree}
-use Rattle.nodes.specs.Place.{place, inTree}
+use Rattle.table.specs.declared.place.Place.{Place}
+use Rattle.table.specs.declared.place.Place.the-variants.{Free, Paired, Virtual, Tree}
+use Rattle.table.specs.Place.{place, inTree}
 use Rattle.rules.specs.Trees.{seen, sameTree}
 use Rattle.rules.specs.Refusals.{makesBlossom}
 

@@ -8,9 +8,9 @@ use Rattle.record.specs.declared.request.Conflict.{Conflict}
 use Rattle.record.specs.declared.request.VirtualConflict.{VirtualConflict}
 use Rattle.rules.specs.Act.{Act, skip, say, change, _then_, look, read, choose, alter, speed}
 use Rattle.rules.specs.Slots.{withFirstChild, withState, shaped}
-use Rattle.nodes.specs.declared.place.Place.{Place}
-use Rattle.nodes.specs.declared.place.Place.the-variants.{Free, Paired, Virtual, Tree}
-use Rattle.nodes.specs.Place.{place}
+use Rattle.table.specs.declared.place.Place.{Place}
+use Rattle.table.specs.declared.place.Place.the-variants.{Free, Paired, Virtual, Tree}
+use Rattle.table.specs.Place.{place}
 use Rattle.rules.specs.Trees.{loaded, sameTree, meeting}
 use Rattle.rules.specs.Matching.{temporaryMatch, temporaryMatchVirtual, augmentWholeTree}
 use Rattle.rules.specs.Blossom.{lacksBlossomSlot, createBlossom}

@@ -8,7 +8,7 @@ use Rattle.slot.specs.declared.state.State.the-variants as S
 use Rattle.slot.specs.Number.{none}
 use Rattle.slot.specs.Slot.{Link, Slot, mirror, emptySlot}
 use Rattle.table.specs.Table.{Table, put}
-use Rattle.nodes.specs.Climb.{secondOuterBlossom}
+use Rattle.table.specs.Climb.{secondOuterBlossom}
 use Rattle.record.specs.declared.answer.Speed.{Speed}
 use Rattle.record.specs.declared.answer.Speed.the-variants as P
 use Rattle.rules.specs.Act.{Act, skip, say, change, _then_, look, read, choose, alter, speed, expand}

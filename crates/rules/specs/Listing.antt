@@ -5,14 +5,14 @@ use lib.Dec.{eqb, ltb}
 use Rattle.slot.specs.declared.number.Vertex.{Vertex}
 use Rattle.slot.specs.Slot.{Link, Slot}
 use Rattle.table.specs.Table.{Table, at}
-use Rattle.nodes.specs.Nodes.{isBlossom, outer}
+use Rattle.table.specs.Nodes.{isBlossom, outer}
 use Rattle.record.specs.declared.answer.Record.{Record}
 use Rattle.record.specs.declared.answer.Record.the-variants as R
 use Rattle.rules.specs.Act.{choose, nodeOf}
 use Rattle.rules.specs.Slots.{up, next}
-use Rattle.nodes.specs.declared.place.Place.{Place}
-use Rattle.nodes.specs.declared.place.Place.the-variants.{Free, Paired, Virtual, Tree}
-use Rattle.nodes.specs.Place.{place}
+use Rattle.table.specs.declared.place.Place.{Place}
+use Rattle.table.specs.declared.place.Place.the-variants.{Free, Paired, Virtual, Tree}
+use Rattle.table.specs.Place.{place}
 
 abbrev pub vertexOf : ℕ → Vertex
 vertexOf v = record { 0 = v }

@@ -7,7 +7,7 @@ use Rattle.lists.specs.Choice.{pick}
 use Rattle.slot.specs.Number.{noVertex}
 use Rattle.slot.specs.State.{isOuter, isPresent}
 use Rattle.table.specs.Table.{Table, at}
-use Rattle.nodes.specs.Nodes.{isBlossom, isDefect, present}
+use Rattle.table.specs.Nodes.{isBlossom, isDefect, present}
 use Rattle.refusal.specs.declared.Refusal.{Refusal}
 use Rattle.refusal.specs.declared.Refusal.the-variants.{NotSound, NoSuchNode, NotOuter, SameNode, TouchOutside, NotGrowing, NoBlossomSlot, NoCommandRoom, NoListingRoom, NotExpandable}
 use Rattle.refusal.specs.declared.Verdict.{Verdict}
@@ -18,7 +18,7 @@ use Rattle.record.specs.declared.request.Expansion.{Expansion}
 use Rattle.rules.specs.Slots.{isGrow, isShrink}
 use Rattle.rules.specs.Sound.{sound, isDefectInside}
 use Rattle.rules.specs.Blossom.{lacksBlossomSlot}
-use Rattle.nodes.specs.Place.{inTree}
+use Rattle.table.specs.Place.{inTree}
 use Rattle.rules.specs.Trees.{seen, sameTree}
 
 -- a test, and the refusal that is given where it is true

@@ -8,8 +8,8 @@ use Rattle.lists.specs.Choice.{pick}
 use Rattle.slot.specs.Number.{none}
 use Rattle.slot.specs.Slot.{Slot, noLink, mirror}
 use Rattle.table.specs.Table.{Table, at}
-use Rattle.nodes.specs.Nodes.{isBlossom, isDefect, present, outer, inner}
-use Rattle.nodes.specs.Climb.{inside}
+use Rattle.table.specs.Nodes.{isBlossom, isDefect, present, outer, inner}
+use Rattle.table.specs.Climb.{inside}
 use Rattle.rules.specs.Slots.{isNone, isSome, isVertex, isFull, sameLink, isStay, isGrow, isShrink, isDamaged, up, next}
 use Rattle.rules.specs.Walk.{walk, ends, isIn, allIn, allBelow}
 
@@ -205,7 +205,7 @@ holds S6 = s6
 holds S7 = s7
 holds S8 = s8
 
--- document 01's order
+-- 01's order
 abbrev pub rules : List Rule
 rules = S1 ∷ S2 ∷ S3 ∷ S4 ∷ S5 ∷ S6 ∷ S7 ∷ S8 ∷ []
 
@@ -231,7 +231,7 @@ abbrev pub orElse : Fault → Fault → Fault
 orElse noFault g = g
 orElse (faultAt r n) g = faultAt r n
 
--- "the first in document 01's order that fails, and the slot is the lowest at which it fails"
+-- "the first in 01's order that fails, and the slot is the lowest at which it fails"
 unfoldable pub firstFaultOf : List Rule → Table → Fault
 firstFaultOf [] t = noFault
 firstFaultOf (r ∷ rs) t = let rest = firstFaultOf rs t in orElse (lowestFault r t 256 0) rest

@@ -7,8 +7,8 @@ use Rattle.lists.specs.Choice.{pick}
 use Rattle.slot.specs.Number.{none}
 use Rattle.slot.specs.Slot.{Slot, newNode}
 use Rattle.table.specs.Table.{Table, at, put}
-use Rattle.counts.specs.Counts.{withDefects}
-use Rattle.nodes.specs.Nodes.{isDefect, present}
+use Rattle.table.specs.Counts.{withDefects}
+use Rattle.table.specs.Nodes.{isDefect, present}
 use Rattle.rules.specs.Act.{choose, same}
 use Rattle.rules.specs.Slots.{isNone, isSome, up}
 use Rattle.rules.specs.Walk.{walk, firstShared}

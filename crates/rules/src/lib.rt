@@ -1,1 +1,1 @@
-// The rules of document 01 as definitions, in specs/, with worked examples in proofs/. There is no code here.
+// The rules (docs/RULES-IN-WORDS.md) as definitions, in specs/, with worked examples in proofs/. There is no code here.

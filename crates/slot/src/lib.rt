@@ -1,4 +1,4 @@
-// Numbers, links and slots as plain values: port 1 of document 01.
+// Numbers, links and slots as plain values: port 1 of the rules (docs/RULES-IN-WORDS.md).
 pub mod link;
 pub mod number;
 pub mod state;

@@ -16,31 +16,31 @@ use Rattle.slot.specs.Slot.{Slot, emptySlot, noLink}
 use Rattle.slot.specs.State.{isOuter, isInner}
 use Rattle.table.specs.Table.{Table, at, Full}
 use Rattle.table.specs.Words.{tableOf, slotFrom}
-use Rattle.table.proofs.Laws.{at-out}
-use Rattle.nodes.specs.Nodes.{present, outer, inner}
+use Rattle.table.proofs.TableLaws.{at-out}
+use Rattle.table.specs.Nodes.{present, outer, inner}
 use Rattle.rules.specs.Slots.{isNone, sameLink, up}
 use Rattle.rules.specs.Walk.{ends}
 use Rattle.rules.specs.Sound.{_⇒_, S5, S6, S7, sizesHold, isBare, ringHolds, s5, s6, s7, sound}
-use Rattle.sound_facts.specs.Facts.{Sizes, Given}
-use Rattle.sound_facts.specs.FactsOfBlossoms.{PresentBlossom}
-use Rattle.sound_facts.proofs.Reflect.{tests, true-test, test-true, test-false, and→, imp→, eqb-no}
-use Rattle.sound_facts.proofs.ReflectSlots.{sameLink↔, outer-present, inner-present, outer-not-inner}
-use Rattle.sound_facts.proofs.Past.{at-none, present-below}
-use Rattle.sound_facts.proofs.ChildLaws.{above-outer}
-use Rattle.sound_facts.proofs.Insides.{blossom↔}
-use Rattle.sound_facts.proofs.SizesAndPointers.{sizes↔}
-use Rattle.sound_facts.proofs.SoundParts.{sound→rule, sound→core, sound→rest}
-use Rattle.sound_marks.specs.Pass.{allFrom}
-use Rattle.sound_links.specs.Links.{ringPlaced}
-use Rattle.sound_slots.specs.OneSlot.{slotHolds, isVacant, vacantOf, ruleOf}
-use Rattle.sound_marks.specs.Marks.{Judged, sweep, marked}
-use Rattle.sound_children.specs.Lists.{listStep}
-use Rattle.sound_rings.specs.Rings.{ringStep, hasRing}
-use Rattle.sound_ways.specs.Depths.{wayStep}
-use Rattle.sound_marks.proofs.Truth.{lie, bool-ext, and-left, and-right, and-both, when, range-to, range-from}
-use Rattle.sound_children.proofs.Paths as list-walks
-use Rattle.sound_rings.proofs.Paths as ring-walks
-use Rattle.sound_ways.proofs.WaysEnd.{wayFine, way-skips, ways-right, way-ringed, way-listed, way-reaches, way-from}
+use Rattle.theorems_soundness.specs.Facts.{Sizes, Given}
+use Rattle.theorems_soundness.specs.FactsOfBlossoms.{PresentBlossom}
+use Rattle.theorems_soundness.proofs.Reflect.{tests, true-test, test-true, test-false, and→, imp→, eqb-no}
+use Rattle.theorems_soundness.proofs.ReflectSlots.{sameLink↔, outer-present, inner-present, outer-not-inner}
+use Rattle.theorems_soundness.proofs.Past.{at-none, present-below}
+use Rattle.theorems_soundness.proofs.ChildLaws.{above-outer}
+use Rattle.theorems_soundness.proofs.Insides.{blossom↔}
+use Rattle.theorems_soundness.proofs.SizesAndPointers.{sizes↔}
+use Rattle.theorems_soundness.proofs.SoundParts.{sound→rule, sound→core, sound→rest}
+use Rattle.sound_walks.specs.Pass.{allFrom}
+use Rattle.sound_slots.specs.Links.{ringPlaced}
+use Rattle.sound.specs.OneSlot.{slotHolds, isVacant, vacantOf, ruleOf}
+use Rattle.sound_walks.specs.Marks.{Judged, sweep, marked}
+use Rattle.sound_walks.specs.Lists.{listStep}
+use Rattle.sound_walks.specs.Rings.{ringStep, hasRing}
+use Rattle.sound_walks.specs.Depths.{wayStep}
+use Rattle.sound_walks.proofs.Truth.{lie, bool-ext, and-left, and-right, and-both, when, range-to, range-from}
+use Rattle.sound_walks.proofs.SoundChildrenPaths as list-walks
+use Rattle.sound_walks.proofs.SoundRingsPaths as ring-walks
+use Rattle.sound_walks.proofs.WaysEnd.{wayFine, way-skips, ways-right, way-ringed, way-listed, way-reaches, way-from}
 use Rattle.sound.specs.Given.{unseen, eachHolds, givenPass, blossomPass, pathsHold}
 use Rattle.sound.proofs.SlotKinds.{undamaged, inner-child, inner-childless}
 use Rattle.sound.proofs.SlotsSound.{all-sound}

@@ -1,4 +1,6 @@
-pub mod Steps
+pub mod SlotsSteps
+pub mod Passes
+pub mod SoundSteps
 pub mod Whole
 pub mod SlotKinds
 pub mod SlotsSound

@@ -12,20 +12,20 @@ use Rattle.slot.specs.Number.{none}
 use Rattle.slot.specs.Slot.{Link, Slot, emptySlot, noLink, mirror}
 use Rattle.slot.specs.State.{isPresent, isOuter}
 use Rattle.table.specs.Table.{Table, at, Full}
-use Rattle.nodes.specs.Nodes.{isBlossom, isDefect, present, outer, inner}
-use Rattle.nodes.specs.Climb.{inside}
+use Rattle.table.specs.Nodes.{isBlossom, isDefect, present, outer, inner}
+use Rattle.table.specs.Climb.{inside}
 use Rattle.rules.specs.Slots.{isNone, isSome, sameLink, isGrow, isShrink, up, next}
 use Rattle.rules.specs.Sound.{_⇒_, farEnd, isDefectInside, s8}
-use Rattle.sound_facts.specs.Facts.{Sizes}
-use Rattle.sound_facts.specs.FactsOfNodes.{FullLink, Virtual, InPair, Paired, Kind, free-node, virtual-node, paired-node, root-node, minus-node, plus-node, OuterChild}
-use Rattle.sound_facts.specs.FactsOfBlossoms.{PresentBlossom, InBlossom}
-use Rattle.sound_facts.proofs.Reflect.{tests, test-case, and→, →and, or→, imp→, →imp, same-or-not, eqb-no}
-use Rattle.sound_facts.proofs.ReflectSlots.{stay↔, grow↔, shrink↔, inner↔, not-present↔, sameLink↔, grow-shrink}
-use Rattle.sound_facts.proofs.Past.{present-some}
-use Rattle.sound_facts.proofs.KindLaws.{far-end-paired, far-end-tree, far-end-inner}
-use Rattle.sound_links.specs.Links.{isThrough, isFarTouch, touchesHold, ringPlaced, pointsBack, pairHolds}
-use Rattle.sound_states.specs.States.{innerHolds, stayHolds, growHolds, shrinkHolds}
-use Rattle.sound_slots.specs.OneSlot.{ruleOf, slotHolds}
+use Rattle.theorems_soundness.specs.Facts.{Sizes}
+use Rattle.theorems_soundness.specs.FactsOfNodes.{FullLink, Virtual, InPair, Paired, Kind, free-node, virtual-node, paired-node, root-node, minus-node, plus-node, OuterChild}
+use Rattle.theorems_soundness.specs.FactsOfBlossoms.{PresentBlossom, InBlossom}
+use Rattle.theorems_soundness.proofs.Reflect.{tests, test-case, and→, →and, or→, imp→, →imp, same-or-not, eqb-no}
+use Rattle.theorems_soundness.proofs.ReflectSlots.{stay↔, grow↔, shrink↔, inner↔, not-present↔, sameLink↔, grow-shrink}
+use Rattle.theorems_soundness.proofs.Past.{present-some}
+use Rattle.theorems_soundness.proofs.KindLaws.{far-end-paired, far-end-tree, far-end-inner}
+use Rattle.sound_slots.specs.Links.{isThrough, isFarTouch, touchesHold, ringPlaced, pointsBack, pairHolds}
+use Rattle.sound_slots.specs.States.{innerHolds, stayHolds, growHolds, shrinkHolds}
+use Rattle.sound.specs.OneSlot.{ruleOf, slotHolds}
 
 -- a slot that is given out and judged, or an empty one
 module _ (t : Table) (full : Full t) (sizes : Sizes t)

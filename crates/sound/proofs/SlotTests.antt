@@ -10,20 +10,20 @@ use Rattle.slot.specs.Number.{none}
 use Rattle.slot.specs.Slot.{Link, noLink, mirror}
 use Rattle.slot.specs.State.{isPresent}
 use Rattle.table.specs.Table.{Table, at, Full}
-use Rattle.nodes.specs.Nodes.{isBlossom, isDefect, outer, inner}
-use Rattle.nodes.specs.Climb.{inside}
+use Rattle.table.specs.Nodes.{isBlossom, isDefect, outer, inner}
+use Rattle.table.specs.Climb.{inside}
 use Rattle.rules.specs.Slots.{isNone, isSome, sameLink, isStay, isGrow, isShrink, up, next}
 use Rattle.rules.specs.Sound.{_⇒_, S8, farEnd, isDefectInside, isBare, s8, sound}
-use Rattle.sound_facts.specs.Facts.{Given, Core, Rest}
-use Rattle.sound_facts.specs.FactsOfNodes.{FullLink, Virtual, Paired, Kind, free-node, virtual-node, paired-node, root-node, minus-node, plus-node}
-use Rattle.sound_facts.proofs.Reflect.{tests, and→, →and, →or, imp→, →imp, eqb-no}
-use Rattle.sound_facts.proofs.ReflectSlots.{stay↔, grow↔, shrink↔, sameLink↔, grow-shrink, stay-shrink, stay-grow}
-use Rattle.sound_facts.proofs.Past.{present-some}
-use Rattle.sound_facts.proofs.KindLaws.{far-end-paired, far-end-tree, far-end-inner}
-use Rattle.sound_facts.proofs.SoundParts.{sound→everywhere, sound→core, sound→rest}
-use Rattle.sound_links.specs.Links.{isThrough, isFarTouch, touchesHold, ringPlaced, pointsBack, pairHolds}
-use Rattle.sound_states.specs.States.{innerHolds, stayHolds, growHolds, shrinkHolds}
-use Rattle.sound_slots.specs.OneSlot.{ruleOf, slotHolds, isVacant, vacantOf}
+use Rattle.theorems_soundness.specs.Facts.{Given, Core, Rest}
+use Rattle.theorems_soundness.specs.FactsOfNodes.{FullLink, Virtual, Paired, Kind, free-node, virtual-node, paired-node, root-node, minus-node, plus-node}
+use Rattle.theorems_soundness.proofs.Reflect.{tests, and→, →and, →or, imp→, →imp, eqb-no}
+use Rattle.theorems_soundness.proofs.ReflectSlots.{stay↔, grow↔, shrink↔, sameLink↔, grow-shrink, stay-shrink, stay-grow}
+use Rattle.theorems_soundness.proofs.Past.{present-some}
+use Rattle.theorems_soundness.proofs.KindLaws.{far-end-paired, far-end-tree, far-end-inner}
+use Rattle.theorems_soundness.proofs.SoundParts.{sound→everywhere, sound→core, sound→rest}
+use Rattle.sound_slots.specs.Links.{isThrough, isFarTouch, touchesHold, ringPlaced, pointsBack, pairHolds}
+use Rattle.sound_slots.specs.States.{innerHolds, stayHolds, growHolds, shrinkHolds}
+use Rattle.sound.specs.OneSlot.{ruleOf, slotHolds, isVacant, vacantOf}
 
 module _ (t : Table) (full : Full t) (h : T (sound t)) where
   core : Core t

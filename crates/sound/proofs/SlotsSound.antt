@@ -9,24 +9,24 @@ use Rattle.slot.specs.declared.state.State.the-variants as S
 use Rattle.slot.specs.Number.{none}
 use Rattle.slot.specs.Slot.{emptySlot}
 use Rattle.table.specs.Table.{Table, at, Full}
-use Rattle.nodes.specs.Nodes.{isBlossom, present, outer, inner}
+use Rattle.table.specs.Nodes.{isBlossom, present, outer, inner}
 use Rattle.rules.specs.Slots.{isNone, isFull, up, next}
 use Rattle.rules.specs.Walk.{ends}
 use Rattle.rules.specs.Sound.{_⇒_, Rule, S1, S2, S3, S4, S5, S6, S7, S8, holds, ringHolds, s5, s6, sound}
-use Rattle.sound_facts.specs.Facts.{Sizes, Given, Names, Pointers, Core}
-use Rattle.sound_facts.specs.FactsOfNodes.{Kind, free-node, virtual-node, paired-node, root-node, minus-node, plus-node, OuterChild}
-use Rattle.sound_facts.specs.FactsOfBlossoms.{PresentBlossom, Ring, InBlossom}
-use Rattle.sound_facts.proofs.Reflect.{tests, →and, →imp}
-use Rattle.sound_facts.proofs.ReflectSlots.{isFull↔, outer-present, inner-present}
-use Rattle.sound_facts.proofs.Chains.{chain-start}
-use Rattle.sound_facts.proofs.OuterKinds.{kind→s3, kind→s4}
-use Rattle.sound_facts.proofs.OuterLists.{s5→children, s7→upward}
-use Rattle.sound_facts.proofs.Insides.{blossom↔, s6→ring, facts→s7}
-use Rattle.sound_facts.proofs.SizesAndPointers.{→s1, pointers↔}
-use Rattle.sound_facts.proofs.SoundParts.{rule→sound}
-use Rattle.sound_facts.proofs.ChildLaws.{next-child}
-use Rattle.sound_facts.proofs.RingLaws.{ring-first, ring-next}
-use Rattle.sound_slots.specs.OneSlot.{slotHolds}
+use Rattle.theorems_soundness.specs.Facts.{Sizes, Given, Names, Pointers, Core}
+use Rattle.theorems_soundness.specs.FactsOfNodes.{Kind, free-node, virtual-node, paired-node, root-node, minus-node, plus-node, OuterChild}
+use Rattle.theorems_soundness.specs.FactsOfBlossoms.{PresentBlossom, Ring, InBlossom}
+use Rattle.theorems_soundness.proofs.Reflect.{tests, →and, →imp}
+use Rattle.theorems_soundness.proofs.ReflectSlots.{isFull↔, outer-present, inner-present}
+use Rattle.theorems_soundness.proofs.Chains.{chain-start}
+use Rattle.theorems_soundness.proofs.OuterKinds.{kind→s3, kind→s4}
+use Rattle.theorems_soundness.proofs.OuterLists.{s5→children, s7→upward}
+use Rattle.theorems_soundness.proofs.Insides.{blossom↔, s6→ring, facts→s7}
+use Rattle.theorems_soundness.proofs.SizesAndPointers.{→s1, pointers↔}
+use Rattle.theorems_soundness.proofs.SoundParts.{rule→sound}
+use Rattle.theorems_soundness.proofs.ChildLaws.{next-child}
+use Rattle.theorems_soundness.proofs.RingLaws.{ring-first, ring-next}
+use Rattle.sound.specs.OneSlot.{slotHolds}
 use Rattle.sound.proofs.SlotKinds.{kind, undamaged, ring-owner, inner-child, in-blossom, touches}
 
 module _ (t : Table) (full : Full t) (sizes : Sizes t)

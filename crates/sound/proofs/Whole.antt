@@ -5,9 +5,9 @@ use mathlib.Core.Bool.{Bool, true}
 use Prim.Native.Nat.{ℕ, _+_, _-_, _≤_, _<_}
 use native.Mathlib.Omega.{arith}
 use Rattle.lists.specs.Choice.{pick}
-use Rattle.sound_marks.specs.Marks.{Judged, judgedOf, sweep}
-use Rattle.sound_marks.proofs.Truth.{by-cases}
-use Rattle.sound_marks.proofs.Sweeps.{sweep-idle, sweep-join, sweep-fails}
+use Rattle.sound_walks.specs.Marks.{Judged, judgedOf, sweep}
+use Rattle.sound_walks.proofs.Truth.{by-cases}
+use Rattle.sound_walks.proofs.Sweeps.{sweep-idle, sweep-join, sweep-fails}
 use Rattle.sound.specs.Given.{unseen, givenPass, blossomPass}
 
 module _ (step : ℕ → List ℕ → Judged) (d b e : ℕ) (db : d ≤ b) (be : b ≤ e) (top : e ≤ 256) where

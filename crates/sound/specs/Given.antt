@@ -5,12 +5,12 @@ use mathlib.Core.List.{List}
 use lib.ListN.{replicate}
 use Rattle.lists.specs.Choice.{pick}
 use Rattle.table.specs.Table.{Table}
-use Rattle.sound_marks.specs.Pass.{allFrom}
-use Rattle.sound_slots.specs.OneSlot.{slotHolds, isVacant}
-use Rattle.sound_marks.specs.Marks.{Judged, sweep}
-use Rattle.sound_children.specs.Lists.{listStep}
-use Rattle.sound_rings.specs.Rings.{ringStep}
-use Rattle.sound_ways.specs.Depths.{wayStep}
+use Rattle.sound_walks.specs.Pass.{allFrom}
+use Rattle.sound.specs.OneSlot.{slotHolds, isVacant}
+use Rattle.sound_walks.specs.Marks.{Judged, sweep}
+use Rattle.sound_walks.specs.Lists.{listStep}
+use Rattle.sound_walks.specs.Rings.{ringStep}
+use Rattle.sound_walks.specs.Depths.{wayStep}
 
 abbrev pub unseen : List ℕ
 unseen = replicate 256 0

@@ -2,9 +2,11 @@
 //
 // Slots that are not given out must be empty; the others, the defects below `count_defects` and the blossoms from begin on, are
 // judged one by one, and then along their pointers.
-use sound_children::children;
-use sound_rings::rings;
-use sound_ways::ways;
+pub mod slots;
+
+use sound_walks::children;
+use sound_walks::rings;
+use sound_walks::ways;
 use table::Table;
 ghost use mathlib.Core.Path.{_≡_};
 ghost use Rattle.table.specs.Words.{tableOf};
@@ -15,16 +17,16 @@ ghost use Rattle.sound.specs.Given.{eachHolds, pathsHold};
 fn each_holds(t: &Table, defects: u16, begin: u16, end: u16) -> bool
     ensures { λ r. ⌜ r ≡ eachHolds (tableOf (now (t .entry))) defects begin end ⌝ }
 {
-    if !sound_slots::slots_hold(t, 0, defects) {
+    if !crate::slots::slots_hold(t, 0, defects) {
         return false;
     }
-    if !sound_slots::all_vacant(t, defects, begin) {
+    if !crate::slots::all_vacant(t, defects, begin) {
         return false;
     }
-    if !sound_slots::slots_hold(t, begin, end) {
+    if !crate::slots::slots_hold(t, begin, end) {
         return false;
     }
-    sound_slots::all_vacant(t, end, 256)
+    crate::slots::all_vacant(t, end, 256)
 }
 
 // Child lists, rings and ways up (S5 to S7).
@@ -52,12 +54,12 @@ fn paths_hold(t: &Table, defects: u16, begin: u16, end: u16) -> bool
 pub fn is_sound(t: &Table) -> bool
     ensures { λ r. ⌜ r ≡ sound (tableOf (now (t .entry))) ⌝ }
 {
-    if !sound_slots::sizes_hold(t) {
+    if !crate::slots::sizes_hold(t) {
         return false;
     }
-    let defects = counts::count_defects(t);
-    let begin = counts::begin(t);
-    let blossoms = counts::count_blossoms(t);
+    let defects = table::counts::count_defects(t);
+    let begin = table::counts::begin(t);
+    let blossoms = table::counts::count_blossoms(t);
     let end = begin + blossoms;
     if !each_holds(t, defects, begin, end) {
         return false;

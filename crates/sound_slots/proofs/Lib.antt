@@ -1,2 +1,2 @@
-pub mod Steps
-pub mod Passes
+pub mod LinksSteps
+pub mod StatesSteps

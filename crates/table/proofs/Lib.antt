@@ -1,3 +1,11 @@
 pub mod WordsOfSlots
-pub mod Laws
+pub mod TableLaws
 pub mod Determined
+pub mod WordsOfCounts
+pub mod BlossomEnd
+pub mod Cleared
+pub mod Fresh
+pub mod ByState
+pub mod Climbs
+pub mod NodesExamples
+pub mod PlaceSteps

@@ -7,6 +7,7 @@ use Rattle.slot.specs.Number.{vertexFrom}
 use Rattle.slot.specs.State.{stateOf, markOf}
 use Rattle.slot.specs.Slot.{Link, Slot}
 use Rattle.table.specs.Table.{Table}
+use Rattle.table.specs.Layout.{slotSize, linkPlace, beginPlace, defectsPlace, blossomsPlace}
 
 -- what the memory is known to hold: words of 16 bits
 abbrev pub Words : List ℕ → Type 0
@@ -41,7 +42,7 @@ slotFrom ws b =
       firstChild = getD ws (b + 2) 0;
       sibling = getD ws (b + 3) 0;
       ring = getD ws (b + 4) 0;
-      link = linkFrom ws (b + 5);
+      link = linkFrom ws (b + linkPlace);
     }
 
 abbrev pub firstWords : Slot → List ℕ
@@ -54,8 +55,8 @@ slotWords s = firstWords s ++ linkWords (s .link)
 unfoldable pub tableOf : List ℕ → Table
 tableOf ws =
     record {
-      slots = count (λ i. slotFrom ws (i * 11)) 0 256;
-      begin = getD ws 2816 0;
-      defects = getD ws 2817 0;
-      blossoms = getD ws 2818 0;
+      slots = count (λ i. slotFrom ws (i * slotSize)) 0 256;
+      begin = getD ws beginPlace 0;
+      defects = getD ws defectsPlace 0;
+      blossoms = getD ws blossomsPlace 0;
     }

@@ -1,5 +1,13 @@
-// Slots of the table, in words that the caller lends. `get` is total: past the last slot stands the empty one. Above this crate,
-// `storing` and `counts` nothing knows the layout of the words.
+// The table in words that the caller lends. `get` is total: past the last slot stands the empty one. Slots are stored in `storing`, the
+// counts stand in `counts`, and above this crate nothing knows the layout of the words.
+pub mod climb;
+pub mod counts;
+pub mod field;
+pub mod layout;
+pub mod making;
+pub mod place;
+pub mod storing;
+
 use slot::Link;
 use slot::Node;
 use slot::Slot;
@@ -9,8 +17,8 @@ ghost use Rattle.slot.specs.Slot.{slotOf, linkOf};
 ghost use Rattle.table.specs.Words.{slotFrom, linkFrom, tableOf};
 ghost use Rattle.table.specs.Table.{at};
 
-// 256 slots of eleven words, then begin, count_defects and count_blossoms.
-pub type Table = [u16; 2819];
+// 256 slots of eleven words, then begin, count_defects and count_blossoms: 2,819 words.
+pub type Table = [u16; layout::WORDS];
 
 // The link in the six words from b on.
 fn link_at(t: &Table, b: usize) -> Link
@@ -36,7 +44,7 @@ fn slot_at(t: &Table, b: usize) -> Slot
         first_child: Node(t[b + 2]),
         sibling: Node(t[b + 3]),
         ring: Node(t[b + 4]),
-        link: link_at(t, b + 5),
+        link: link_at(t, b + layout::LINK),
     }
 }
 
@@ -45,9 +53,11 @@ pub fn get(t: &Table, n: Node) -> Slot
     ensures { λ r. ⌜ slotOf r ≡ at (tableOf (now (t .entry))) (n .0) ⌝ }
 {
     let i = n.0 as usize;
-    if i < 256 {
-        slot_at(t, i * 11)
+    if i < layout::SLOTS {
+        slot_at(t, i * layout::SLOT_WORDS)
     } else {
         slot::value::empty_slot()
     }
 }
+
+pub use place::Place;

@@ -1,4 +1,5 @@
 // One line, read as a request.
+use crate::decimals::Number;
 use crate::fields::none;
 use crate::fields::place;
 use crate::fields::put;
@@ -10,7 +11,6 @@ use crate::words::is_blank;
 use crate::words::same_word;
 use crate::words::start_of;
 use crate::words::word_from;
-use decimals::Number;
 
 // What a line says.
 pub enum Line {
@@ -36,7 +36,7 @@ fn number(word: &[u8], none: u32) -> Number {
     if same_word(word, b"none") {
         return Number::Is(none);
     }
-    decimals::read_decimal(word, none)
+    crate::decimals::read_decimal(word, none)
 }
 
 // Whether a word is the form's; where that is a mark, the number goes to its place in the record.
@@ -83,7 +83,7 @@ fn kind_of(first: &[u8], kind: u16) -> u16 {
 
 // The length and the kind stand first. Returns the bytes that the record fills.
 fn put_header(record: &mut [u8], kind: u16) -> usize {
-    let length = layouts::layout_of(kind).length;
+    let length = record::layout::layout_of(kind).length;
     put(record, 0, length as u32 + kind as u32 * 65536, 4);
     2 + length as usize
 }

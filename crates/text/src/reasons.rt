@@ -1,10 +1,10 @@
 // Refusals in words that say which node or field, and what stands there.
+use crate::decimals::write_bytes;
 use crate::fields::narrow_at;
 use crate::fields::put;
 use crate::pieces::nth;
 use crate::writing::write_form;
 use crate::writing::write_named;
-use decimals::write_bytes;
 use record::Kind;
 
 // Why a request is refused: each has its line in REASONS, with up to three numbers.
@@ -128,7 +128,7 @@ fn fault_of(tape: &[u8], kind: Kind, length: u16) -> usize {
 // Why the record that stands first on a tape is bad.
 fn write_record_fault(out: &mut [u8], pos: usize, tape: &[u8]) -> usize {
     let number = narrow_at(tape, 2);
-    let layout = layouts::layout_of(number);
+    let layout = record::layout::layout_of(number);
     let length = layout.length;
     let kind = layout.kind;
     let fault = fault_of(tape, kind, length);

@@ -1,4 +1,4 @@
-use Rattle.sound.proofs.Steps.{defects-fail, gap-fails, blossoms-fail, end-decides}
+use Rattle.sound.proofs.SoundSteps.{defects-fail, gap-fails, blossoms-fail, end-decides}
 use borrow.Author.Tests.{not-true, not-false}
 use borrow.Author.Needs.{needs}
 use Rattle.sound.proofs.each_holds.Statement.{statement}

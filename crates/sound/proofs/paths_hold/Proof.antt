@@ -1,5 +1,5 @@
-use Rattle.sound.proofs.Steps.{given-fails, given-both, blossoms-pass, lists-fail, rings-fail, ways-fail, ways-judge}
-use Rattle.sound_marks.specs.Marks.{Judged}
+use Rattle.sound.proofs.SoundSteps.{given-fails, given-both, blossoms-pass, lists-fail, rings-fail, ways-fail, ways-judge}
+use Rattle.sound_walks.specs.Marks.{Judged}
 use mathlib.Core.Path.{ap, sym, _∙_}
 use borrow.Author.Tests.{not-true, not-false}
 use borrow.Author.Needs.{needs}

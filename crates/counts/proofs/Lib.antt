@@ -1,2 +1,0 @@
-pub mod WordsOfCounts
-pub mod BlossomEnd

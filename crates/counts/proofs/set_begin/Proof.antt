@@ -1,9 +1,0 @@
-use Rattle.counts.proofs.WordsOfCounts.{begin-words}
-use borrow.Author.Needs.{needs}
-use Rattle.counts.proofs.set_begin.Statement.{statement}
-use Rattle.counts.proofs.set_begin.Tie as tie
-
-pub set-begin-spec : {M : Type 1} → statement M
-set-begin-spec = tie.close (tie.spec
-    (λ c. search needs)
-    (λ c. begin-words _ _ (search needs)))

@@ -1,9 +1,0 @@
-use Rattle.counts.proofs.WordsOfCounts.{defects-words}
-use borrow.Author.Needs.{needs}
-use Rattle.counts.proofs.set_count_defects.Statement.{statement}
-use Rattle.counts.proofs.set_count_defects.Tie as tie
-
-pub set-count-defects-spec : {M : Type 1} → statement M
-set-count-defects-spec = tie.close (tie.spec
-    (λ c. search needs)
-    (λ c. defects-words _ _ (search needs)))

@@ -1,4 +1,0 @@
-pub mod Steps
-pub mod Defects
-pub mod Room
-pub mod Given

@@ -1,9 +1,0 @@
-pub mod LoadedExamples
-pub mod Lasting
-pub mod LastingBlossom
-pub mod LastingRequests
-pub mod EmptyStay
-pub mod Presence
-pub mod ServedRecords
-pub mod TapeListed
-pub mod LoadedEvents

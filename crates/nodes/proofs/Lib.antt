@@ -1,3 +1,0 @@
-pub mod ByState
-pub mod Climbs
-pub mod Examples

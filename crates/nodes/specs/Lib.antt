@@ -1,3 +1,0 @@
-pub mod Nodes
-pub mod Climb
-pub mod Place

@@ -1,4 +1,0 @@
-pub mod Lent
-pub mod InOrder
-pub mod InARow
-pub mod LazyPorts

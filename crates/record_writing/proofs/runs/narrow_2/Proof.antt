@@ -1,0 +1,17 @@
+use Rattle.record.proofs.Written.{written-none, written-placed}
+use native.Mathlib.Omega.{arith}
+use mathlib.Core.Path.{refl}
+use borrow.Author.Needs.{needs}
+use Rattle.record_writing.proofs.runs.narrow_2.Statement.{statement}
+use Rattle.record_writing.proofs.runs.narrow_2.Tie as tie
+
+pub narrow-2-spec : {M : Type 1} → statement M
+narrow-2-spec =
+    tie.close (tie.spec
+    (λ c. written-none _ _ _ (omega arith))
+    (λ c. search needs)
+    (λ c. written-none _ _ _ (omega arith))
+    (λ c κs. search needs)
+    (λ c. search needs)
+    (λ c. search needs)
+    (λ c. written-placed _ _ _ (c .before .before .two .ensures) refl (omega (arith, (c .before .before .before .before .before .if1 .left), (c .before .before .before .before .if2 .left)))))

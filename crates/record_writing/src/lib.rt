@@ -1,0 +1,37 @@
+// Writing an answer, whichever it is: the public call.
+pub mod answers;
+pub mod fields;
+pub mod requests;
+pub mod runs;
+
+use record::Record;
+use refusal::Answer;
+use refusal::Refusal;
+ghost use mathlib.Core.Path.{_≡_};
+ghost use Rattle.record.specs.Records.{answerBytes};
+ghost use Rattle.record.specs.Writing.{outOf, written, wroteOf, wrote};
+
+// Writes an answer at pos, and returns the position after it; without room for all of it, nothing, and pos.
+fn emit(out: &mut [u8], pos: usize, answer: Record) -> usize
+    ensures { λ r. ⌜ outOf (now (out .exit)) r ≡ written (outOf (now (out .entry)) pos) (answerBytes answer) ⌝ }
+{
+    match answer {
+        Record::Speed(node, speed) => crate::answers::speed(out, pos, node, speed),
+        Record::Create(blossom) => crate::answers::create(out, pos, blossom),
+        Record::Expand(blossom) => crate::answers::expand(out, pos, blossom),
+        Record::End(number) => crate::answers::end(out, pos, number),
+        Record::Pair(pair) => crate::answers::pair(out, pos, pair),
+        Record::VirtualPair(pair) => crate::answers::virtual_pair(out, pos, pair),
+    }
+}
+
+// The bytes written, or a refusal.
+pub fn write_answer(out: &mut [u8], pos: usize, answer: Record) -> Answer
+    ensures { λ r. ⌜ wroteOf (now (out .exit)) r ≡ wrote (outOf (now (out .entry)) pos) (answerBytes answer) ⌝ }
+{
+    let end = emit(out, pos, answer);
+    if end == pos {
+        return Answer::Refused(Refusal::NoRecordRoom);
+    }
+    Answer::Done(end - pos)
+}

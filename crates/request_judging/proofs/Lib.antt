@@ -1,0 +1,5 @@
+pub mod NodesSteps
+pub mod ChecksSteps
+pub mod JudgingSteps
+pub mod TreesSteps
+pub mod Meets

@@ -1,0 +1,15 @@
+use Rattle.request_judging.proofs.ChecksSteps.{either-of-three}
+use borrow.Author.Needs.{needs}
+use Rattle.request_judging.proofs.checks.virtual_names_no_node.Statement.{statement}
+use Rattle.request_judging.proofs.checks.virtual_names_no_node.Tie as tie
+
+pub virtual-names-no-node-spec : {M : Type 1} → statement M
+virtual-names-no-node-spec =
+    tie.close
+    (tie.spec
+    (λ c κs. search needs)
+    (λ c κs. search needs)
+    (λ c κs. search needs)
+    (λ c κs. search needs)
+    (λ c κs. search needs)
+    (λ c. either-of-three _ _ _ _ _ _ _ _ (c .before .before .before .before .is-no-node .ensures) (c .before .before .before .is-no-vertex .ensures) (c .before .before .either .ensures) (c .before .is-no-vertex2 .ensures) (c .either2 .ensures)))

@@ -1,0 +1,24 @@
+use Rattle.slot.specs.State.{isOuter}
+use mathlib.Core.Bool.{not}
+use Rattle.request_judging.proofs.NodesSteps.{by-seen}
+use borrow.Author.Needs.{needs}
+use Rattle.request_judging.proofs.nodes.is_not_outer.Statement.{statement}
+use Rattle.request_judging.proofs.nodes.is_not_outer.Tie as tie
+
+pub is-not-outer-spec : {M : Type 1} → statement M
+is-not-outer-spec =
+    tie.close
+    (tie.spec
+    (λ c κs. search needs)
+    (λ c. search needs)
+    (λ c. search needs)
+    (λ c. search needs)
+    (λ c. search needs)
+    (λ c. search needs)
+    (λ c. search needs)
+    (λ c. by-seen (λ x. not (isOuter x)) _ _ _ (c .before .before .seen-state .ensures) (c .enum-told .given .1))
+    (λ c. by-seen (λ x. not (isOuter x)) _ _ _ (c .before .before .seen-state .ensures) (c .enum-told2 .given .1))
+    (λ c. by-seen (λ x. not (isOuter x)) _ _ _ (c .before .before .seen-state .ensures) (c .enum-told3 .given .1))
+    (λ c. by-seen (λ x. not (isOuter x)) _ _ _ (c .before .before .seen-state .ensures) (c .enum-told4 .given .1))
+    (λ c. by-seen (λ x. not (isOuter x)) _ _ _ (c .before .before .seen-state .ensures) (c .enum-told5 .given .1))
+    (λ c. by-seen (λ x. not (isOuter x)) _ _ _ (c .before .before .seen-state .ensures) (c .enum-told6 .given .1)))

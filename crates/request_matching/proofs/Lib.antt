@@ -1,0 +1,4 @@
+pub mod AlteringSteps
+pub mod PairingSteps
+pub mod MatchingSteps
+pub mod GrowthSteps

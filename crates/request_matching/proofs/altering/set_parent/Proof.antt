@@ -1,0 +1,10 @@
+use Rattle.request_matching.proofs.AlteringSteps.{alter-step}
+use borrow.Author.Needs.{needs}
+use Rattle.request_matching.proofs.altering.set_parent.Statement.{statement}
+use Rattle.request_matching.proofs.altering.set_parent.Tie as tie
+
+pub set-parent-spec : {M : Type 1} → statement M
+set-parent-spec = tie.close (tie.spec
+    (λ c κs. search needs)
+    (λ c κs. search needs)
+    (λ c. alter-step _ _ _ _ _ (c .before .before .before .before .before .before .get .ensures) (c .store .ensures)))

@@ -1,0 +1,3 @@
+pub mod ConflictsSteps
+pub mod VirtualConflictsSteps
+pub mod Emptied

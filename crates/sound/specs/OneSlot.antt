@@ -1,0 +1,34 @@
+-- What the code asks of one slot: the rule of its state where it is given out, nothing stored where it is not.
+use Prim.Native.Nat.{ℕ}
+use mathlib.Core.Bool.{Bool, false, _&&_}
+use Rattle.slot.specs.declared.state.State.{State}
+use Rattle.slot.specs.declared.state.State.the-variants as S
+use Rattle.slot.specs.Slot.{Slot}
+use Rattle.table.specs.Table.{Table, at}
+use Rattle.rules.specs.Sound.{isBare}
+use Rattle.sound_slots.specs.Links.{ringPlaced}
+use Rattle.sound_slots.specs.States.{innerHolds, stayHolds, growHolds, shrinkHolds}
+
+abbrev pub ruleOf : State → Table → ℕ → Slot → Bool
+ruleOf S.Empty t n s = isBare s
+ruleOf S.Inner t n s = innerHolds t n s
+ruleOf S.Stay t n s = stayHolds t n s
+ruleOf S.Grow t n s = growHolds t n s
+ruleOf S.Shrink t n s = shrinkHolds t n s
+ruleOf S.Damaged t n s = false
+
+unfoldable pub slotHolds : Table → ℕ → Bool
+slotHolds t n = ringPlaced t n (at t n .ring) && ruleOf (at t n .state) t n (at t n)
+
+-- ---- slots that are not given out
+
+abbrev pub vacantOf : State → Slot → Bool
+vacantOf S.Empty s = isBare s
+vacantOf S.Inner s = false
+vacantOf S.Stay s = false
+vacantOf S.Grow s = false
+vacantOf S.Shrink s = false
+vacantOf S.Damaged s = false
+
+unfoldable pub isVacant : Table → ℕ → Bool
+isVacant t n = vacantOf (at t n .state) (at t n)

@@ -1,2 +1,0 @@
-// S5 in linear work: each child list is walked once.
-pub mod children;

@@ -1,4 +1,0 @@
-pub mod Steps
-pub mod Truth
-pub mod Walks
-pub mod Sweeps

@@ -1,0 +1,10 @@
+pub mod SoundMarksSteps
+pub mod Truth
+pub mod Walks
+pub mod Sweeps
+pub mod SoundChildrenSteps
+pub mod SoundChildrenPaths
+pub mod SoundRingsSteps
+pub mod SoundRingsPaths
+pub mod DepthSteps
+pub mod WaysEnd

@@ -1,0 +1,15 @@
+use lib.Seq.{set-out}
+use mathlib.Core.Path.{sym}
+use borrow.Author.Needs.{needs}
+use Rattle.sound_walks.proofs.marks.note_depth.Statement.{statement}
+use Rattle.sound_walks.proofs.marks.note_depth.Tie as tie
+
+pub note-depth-spec : {M : Type 1} → statement M
+note-depth-spec =
+    tie.close (tie.spec
+    (λ c. search needs)
+    (λ c. search needs)
+    (λ c. search needs)
+    (λ c. search needs)
+    (λ c. search needs)
+    (λ c. sym (set-out _ _ _ (c .if1 .left))))

@@ -1,0 +1,43 @@
+// A number for each slot, in lent memory. Past its end there is nothing to read and nothing to change.
+use slot::Node;
+ghost use mathlib.Core.Path.{_≡_};
+ghost use lib.ListN.{set, getD};
+ghost use Rattle.sound_walks.specs.Marks.{marked};
+
+pub fn mark(seen: &mut [u8], n: Node)
+    ensures { λ _. ⌜ now (seen .exit) ≡ set (now (seen .entry)) (n .0) 1 ⌝ }
+{
+    let i = n.0 as usize;
+    if i < seen.len() {
+        seen[i] = 1;
+    }
+}
+
+pub fn is_marked(seen: &[u8], n: Node) -> bool
+    ensures { λ r. ⌜ r ≡ marked (now (seen .entry)) (n .0) ⌝ }
+{
+    let i = n.0 as usize;
+    if i < seen.len() {
+        return seen[i] == 1;
+    }
+    false
+}
+
+pub fn depth_of(deep: &[u16], n: Node) -> u16
+    ensures { λ r. ⌜ r ≡ getD (now (deep .entry)) (n .0) 0 ⌝ }
+{
+    let i = n.0 as usize;
+    if i < deep.len() {
+        return deep[i];
+    }
+    0
+}
+
+pub fn note_depth(deep: &mut [u16], n: Node, depth: u16)
+    ensures { λ _. ⌜ now (deep .exit) ≡ set (now (deep .entry)) (n .0) depth ⌝ }
+{
+    let i = n.0 as usize;
+    if i < deep.len() {
+        deep[i] = depth;
+    }
+}

@@ -1,2 +1,0 @@
-pub mod DepthSteps
-pub mod WaysEnd

@@ -1,0 +1,29 @@
+use borrow.Author.Needs.{needs}
+use mathlib.Core.Path.{_≡_, refl, sym, _∙_}
+use borrow.Author.Tests.{not-true, not-false}
+use Rattle.table.specs.Words.{tableOf}
+use Rattle.table.specs.Climb.{outerBlossomWithin}
+use Rattle.table.proofs.Climbs.{outer-spent, outer-stop, outer-more}
+use Rattle.table.proofs.climb.get_outer_blossom.Statement.{statement}
+use Rattle.table.proofs.climb.get_outer_blossom.Tie as tie
+
+abbrev Inv-loop : tie.InvT-loop
+Inv-loop t here₀ left₀ here left = outerBlossomWithin left (tableOf t) (here .0) ≡ outerBlossomWithin left₀ (tableOf t) (here₀ .0)
+
+abbrev μ-loop : tie.MeasureT-loop
+μ-loop t here₀ left₀ here left = left
+
+pub get-outer-blossom-spec : {M : Type 1} → statement M
+get-outer-blossom-spec =
+    tie.close
+    (tie.spec
+    Inv-loop
+    μ-loop
+    (λ c. refl)
+    (λ c κs. search needs)
+    (λ c. sym (outer-stop _ _ _ (sym (c .before .is-inner .ensures) ∙ not-true _ (c .if1 .taken))) ∙ (c .before .before .before .loop .inv))
+    (λ c κs. search needs)
+    (λ c. search needs)
+    (λ c. search needs)
+    (λ c. outer-more _ _ _ _ (c .before .before .before .loop-test .taken) (sym (c .before .before .is-inner .ensures) ∙ not-false _ (c .before .if1 .left)) (c .parent .ensures) ∙ (c .before .before .before .before .loop .inv))
+    (λ c. sym (outer-spent _ _ _ (search needs)) ∙ (c .before .loop .inv)))

@@ -1,0 +1,44 @@
+// A refusal in words: which node or field of the request, and what stands there. The number is given by the call that refused; here
+// it is only told what it was given for, on the same table, which the refusal left as it was.
+mod conflict;
+mod expansion;
+mod node;
+mod reason;
+mod virtual_conflict;
+
+use reason::Reason;
+use record::Request;
+use table::Table;
+
+fn why(t: &Table, request: Request, number: u16) -> Reason {
+    match request {
+        Request::Conflict(c) => conflict::why(t, c, number),
+        Request::VirtualConflict(c) => virtual_conflict::why(t, c, number),
+        Request::Expansion(e) => expansion::why(t, e, number),
+        Request::Reset => reason::unknown(),
+        Request::List => reason::unknown(),
+    }
+}
+
+// The end record in the plain words of its number.
+fn write_plain(out: &mut [u8], pos: usize, number: u16) -> usize {
+    let mut space = [0u8; 6];
+    let record: &mut [u8] = &mut space;
+    record_writing::answers::end(record, 0, number);
+    text::write_records(out, pos, record)
+}
+
+// The line of a request that was refused by a number.
+pub fn write_refusal(
+    out: &mut [u8],
+    pos: usize,
+    t: &Table,
+    request: Request,
+    number: u16,
+) -> usize {
+    let reason = why(t, request, number);
+    if reason.line == reason::UNKNOWN {
+        return write_plain(out, pos, number);
+    }
+    text::write_reason(out, pos, reason.line, reason.a, reason.b, reason.c)
+}

@@ -1,0 +1,40 @@
+// Why a virtual conflict was refused.
+use crate::node;
+use crate::reason::Reason;
+use crate::reason::of_node;
+use crate::reason::unknown;
+use record::VirtualConflict;
+use slot::Node;
+use table::Table;
+use text::reasons;
+
+fn no_node_or_vertex(t: &Table, c: VirtualConflict) -> Reason {
+    let node = c.node;
+    let vertex = c.vertex;
+    if request_judging::nodes::is_no_node(t, node) {
+        return node::no_node(node);
+    }
+    if node::is_none(vertex) {
+        return of_node(reasons::NO_VERTEX, node);
+    }
+    of_node(reasons::NO_VIRTUAL_VERTEX, node)
+}
+
+fn not_growing(t: &Table, node: Node) -> Reason {
+    if request_judging::nodes::is_minus(t, node) {
+        return of_node(reasons::SHRINKS, node);
+    }
+    of_node(reasons::STAYS, node)
+}
+
+pub fn why(t: &Table, c: VirtualConflict, number: u16) -> Reason {
+    let node = c.node;
+    let touch = c.touch;
+    match number {
+        3 => no_node_or_vertex(t, c),
+        4 => node::not_outer(t, node),
+        6 => node::touch(t, node, touch),
+        7 => not_growing(t, node),
+        _ => unknown(),
+    }
+}

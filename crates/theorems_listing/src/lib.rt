@@ -1,0 +1,1 @@
+// The listing names each present defect once: proofs/EachEventOnce, over specs/Named. There is no code here.

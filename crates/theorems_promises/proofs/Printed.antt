@@ -1,0 +1,50 @@
+-- "For conflict 0, 1 (touches 0, 1, vertices 10, 11), then list, it writes exactly": the formula computed, and so what any turns on a
+-- table made with begin 128 write.
+use mathlib.Core.Path.{_≡_, refl, _∙_}
+use mathlib.Core.List.{List, [], _∷_, _++_}
+use Prim.Native.Nat.{ℕ}
+use native.Mathlib.Omega.{arith}
+use Rattle.table.specs.Making.{Made}
+use Rattle.refusal.specs.declared.Answer.the-variants as A
+use Rattle.record.specs.declared.request.Request.the-variants as Q
+use Rattle.record.specs.Fields.{AllBytes}
+use Rattle.record.specs.Kinds.{layoutOf}
+use Rattle.record.specs.Records.{requestBytes, answerBytes}
+use Rattle.record.specs.Reading as reading
+use Rattle.record.specs.Writing.{bytesOf}
+use Rattle.rules.specs.Script.{meet}
+use Rattle.rules.proofs.Script.{all-rules}
+use Rattle.theorems_promises.specs.InARow.{tapeOf, answeredAndEnded, inARow}
+use Rattle.rules.specs.Run.{requestsOf}
+use Rattle.program.specs.Program.{usualBegin}
+use Rattle.theorems_promises.specs.Turns.{Turns, allWritten}
+use Rattle.theorems_promises.specs.Written.{programWrites}
+use Rattle.theorems_promises.proofs.InTurns.{written-in-all}
+
+unfoldable pub tape : List ℕ
+tape = requestBytes (meet 0 1 0 1 10 11) ++ requestBytes Q.List
+
+unfoldable pub printed : List ℕ
+printed =
+    0x06 ∷ 0x00 ∷ 0x10 ∷ 0x00 ∷ 0x00 ∷ 0x00 ∷ 0x00 ∷ 0x00
+    ∷ 0x06 ∷ 0x00 ∷ 0x10 ∷ 0x00 ∷ 0x01 ∷ 0x00 ∷ 0x00 ∷ 0x00
+    ∷ 0x04 ∷ 0x00 ∷ 0x13 ∷ 0x00 ∷ 0x00 ∷ 0x00
+    ∷ 0x0E ∷ 0x00 ∷ 0x14 ∷ 0x00 ∷ 0x00 ∷ 0x00 ∷ 0x01 ∷ 0x00
+    ∷ 0x0A ∷ 0x00 ∷ 0x00 ∷ 0x00 ∷ 0x0B ∷ 0x00 ∷ 0x00 ∷ 0x00
+    ∷ 0x04 ∷ 0x00 ∷ 0x13 ∷ 0x00 ∷ 0x00 ∷ 0x00
+    ∷ []
+
+-- nothing for an empty tape; behind a byte that is no record, an end record 12
+formula-printed :
+    (programWrites usualBegin tape ≡ printed)
+    × (programWrites usualBegin [] ≡ [])
+    × (programWrites usualBegin (tape ++ 7 ∷ []) ≡ printed ++ 0x04 ∷ 0x00 ∷ 0x13 ∷ 0x00 ∷ 0x0C ∷ 0x00 ∷ [])
+unfolding all-rules programWrites tape printed requestsOf tapeOf answeredAndEnded inARow bytesOf requestBytes answerBytes layoutOf reading.read
+formula-printed = (refl, refl, refl)
+
+tape-bytes : AllBytes tape
+unfolding tape requestBytes
+tape-bytes = search arith
+
+pub program-prints : (before words : List ℕ) → Made before usualBegin (A.Done 0) words → (ts : Turns words tape) → allWritten ts ≡ printed
+program-prints before words made ts = written-in-all usualBegin before words tape made ts tape-bytes ∙ formula-printed .0

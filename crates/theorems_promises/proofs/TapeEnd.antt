@@ -1,0 +1,59 @@
+-- What stands behind some records of a tape is the tape's end, and what stands before it is the bytes of the requests read.
+use mathlib.Core.Path.{_≡_, sym, ap, _∙_}
+use mathlib.Core.List.{List, [], _++_, append-assoc}
+use Prim.Native.Nat.{ℕ, zero, suc, _-_}
+use native.Mathlib.Omega.{arith}
+use lib.ListN.{length, take, drop, length-append, take-append-drop}
+use lib.Seq.{drop-append-seam}
+use Rattle.record.specs.declared.request.Request.{Request}
+use Rattle.record.specs.declared.request.Reading.the-variants as G
+use Rattle.record.specs.Fields.{AllBytes}
+use Rattle.record.specs.Records.{requestBytes}
+use Rattle.record.specs.Reading as reading
+use Rattle.record.proofs.Codec.{bytes-drop}
+use Rattle.record.proofs.Theorems.{read-request}
+use Rattle.rules.specs.Run.{Between, requestsOf}
+use Rattle.rules.proofs.TapeRequests.{first-request}
+use Rattle.theorems_promises.specs.InARow.{tapeOf}
+
+-- tape ends with rest
+record Ends (tape rest : List ℕ) : Type 0 where
+  pub front : List ℕ
+  pub parts : tape ≡ front ++ rest
+
+ends : (n : ℕ) (tape rest : List ℕ) → Between n tape rest → Ends tape rest
+ends zero tape rest b = record { front = []; parts = b }
+ends (suc n) tape rest (q, size, r, b) =
+    let e = ends n (drop size tape) rest b in
+    record {
+      front = take size tape ++ e .front;
+      parts = sym (take-append-drop size tape) ∙ ap (λ (l : List ℕ). take size tape ++ l) (e .parts) ∙ sym (append-assoc (take size tape) (e .front) rest);
+    }
+
+pub behind-records : (n : ℕ) (tape rest : List ℕ) → Between n tape rest → rest ≡ drop (length tape - length rest) tape
+behind-records n tape rest b =
+    let e = ends n tape rest b in
+    let count : length tape - length rest ≡ length (e .front) = omega (arith, ap length (e .parts), length-append (e .front) rest) in
+    rw count (sym (ap (drop (length (e .front))) (e .parts) ∙ drop-append-seam (e .front) rest))
+
+-- ---- the requests of those records
+
+one-before :
+    (n : ℕ) (tape rest : List ℕ) (q : Request) (size : ℕ)
+    → requestBytes q ≡ take size tape
+    → reading.read tape ≡ G.Request q size
+    → drop size tape ≡ tapeOf (requestsOf n (drop size tape)) ++ rest
+    → tape ≡ tapeOf (requestsOf (suc n) tape) ++ rest
+unfolding tapeOf
+one-before n tape rest q size e r later =
+    rw (first-request n tape q size r)
+    (sym (take-append-drop size tape)
+    ∙ ap (λ (l : List ℕ). l ++ drop size tape) (sym e)
+    ∙ ap (λ (l : List ℕ). requestBytes q ++ l) later
+    ∙ sym (append-assoc (requestBytes q) (tapeOf (requestsOf n (drop size tape))) rest))
+
+pub before-rest : (n : ℕ) (tape rest : List ℕ) → AllBytes tape → Between n tape rest → tape ≡ tapeOf (requestsOf n tape) ++ rest
+unfolding requestsOf tapeOf
+before-rest zero tape rest a b = b
+before-rest (suc n) tape rest a (q, size, r, b) =
+    one-before n tape rest q size (read-request tape q size a r) r (before-rest n (drop size tape) rest (bytes-drop size tape a) b)
