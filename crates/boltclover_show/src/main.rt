@@ -1,8 +1,14 @@
 // The program for people: runs the tape on standard input, of any length, on a fresh table of begin 128, or of the first argument,
 // and prints each request and its answers in words, then the listing. A tape that goes bad ends with refusal 12, and is named on
 // standard error too.
+mod conflict;
+mod expansion;
+mod explaining;
+mod node;
 mod print;
+mod reason;
 mod turns;
+mod virtual_conflict;
 
 use boltclover_shared::Ending;
 use refusal::Answer;

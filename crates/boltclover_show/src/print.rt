@@ -41,7 +41,7 @@ fn write_answers(
     if number == 0 {
         return write_lines(lines, pos, answers, written);
     }
-    text_reasons::write_refusal(lines, pos, t, request, number)
+    crate::explaining::write_refusal(lines, pos, t, request, number)
 }
 
 // The request that stands first on the tape, in so many bytes, and what it answers.

@@ -25,32 +25,32 @@ pub fn speed(out: &mut [u8], pos: usize, node: Node, speed: Speed) -> usize
     ensures { λ r. ⌜ outOf (now (out .exit)) r ≡ written (outOf (now (out .entry)) pos) (answerBytes (R.Speed node speed)) ⌝ }
 {
     let number = speed_number(speed);
-    crate::runs::narrow_4(out, pos, kind::SPEED_LENGTH, kind::SPEED, node.0, number)
+    record_fields::runs::narrow_4(out, pos, kind::SPEED_LENGTH, kind::SPEED, node.0, number)
 }
 
 pub fn create(out: &mut [u8], pos: usize, blossom: Node) -> usize
     ensures { λ r. ⌜ outOf (now (out .exit)) r ≡ written (outOf (now (out .entry)) pos) (answerBytes (R.Create blossom)) ⌝ }
 {
-    crate::runs::narrow_3(out, pos, kind::CREATE_LENGTH, kind::CREATE, blossom.0)
+    record_fields::runs::narrow_3(out, pos, kind::CREATE_LENGTH, kind::CREATE, blossom.0)
 }
 
 pub fn expand(out: &mut [u8], pos: usize, blossom: Node) -> usize
     ensures { λ r. ⌜ outOf (now (out .exit)) r ≡ written (outOf (now (out .entry)) pos) (answerBytes (R.Expand blossom)) ⌝ }
 {
-    crate::runs::narrow_3(out, pos, kind::EXPAND_LENGTH, kind::EXPAND, blossom.0)
+    record_fields::runs::narrow_3(out, pos, kind::EXPAND_LENGTH, kind::EXPAND, blossom.0)
 }
 
 // 0, or the refusal's number.
 pub fn end(out: &mut [u8], pos: usize, number: u16) -> usize
     ensures { λ r. ⌜ outOf (now (out .exit)) r ≡ written (outOf (now (out .entry)) pos) (answerBytes (R.End number)) ⌝ }
 {
-    crate::runs::narrow_3(out, pos, kind::END_LENGTH, kind::END, number)
+    record_fields::runs::narrow_3(out, pos, kind::END_LENGTH, kind::END, number)
 }
 
 pub fn pair(out: &mut [u8], pos: usize, pair: Pair) -> usize
     ensures { λ r. ⌜ outOf (now (out .exit)) r ≡ written (outOf (now (out .entry)) pos) (answerBytes (R.Pair pair)) ⌝ }
 {
-    crate::runs::narrow_4_wide_2(
+    record_fields::runs::narrow_4_wide_2(
         out,
         pos,
         kind::PAIR_LENGTH,
@@ -65,7 +65,7 @@ pub fn pair(out: &mut [u8], pos: usize, pair: Pair) -> usize
 pub fn virtual_pair(out: &mut [u8], pos: usize, virtual_pair: VirtualPair) -> usize
     ensures { λ r. ⌜ outOf (now (out .exit)) r ≡ written (outOf (now (out .entry)) pos) (answerBytes (R.VirtualPair «virtual_pair»)) ⌝ }
 {
-    crate::runs::narrow_3_wide_2(
+    record_fields::runs::narrow_3_wide_2(
         out,
         pos,
         kind::VIRTUAL_PAIR_LENGTH,

@@ -1,8 +1,6 @@
 // Writing an answer, whichever it is: the public call.
 pub mod answers;
-pub mod fields;
 pub mod requests;
-pub mod runs;
 
 use record::Record;
 use refusal::Answer;

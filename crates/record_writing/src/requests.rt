@@ -12,7 +12,7 @@ fn put_request(out: &mut [u8], pos: usize, request: Request) -> usize
     ensures { λ r. ⌜ outOf (now (out .exit)) r ≡ written (outOf (now (out .entry)) pos) (requestBytes request) ⌝ }
 {
     match request {
-        Request::Conflict(conflict) => crate::runs::narrow_6_wide_2(
+        Request::Conflict(conflict) => record_fields::runs::narrow_6_wide_2(
             out,
             pos,
             kind::CONFLICT_LENGTH,
@@ -24,7 +24,7 @@ fn put_request(out: &mut [u8], pos: usize, request: Request) -> usize
             conflict.vertex_1.0,
             conflict.vertex_2.0,
         ),
-        Request::VirtualConflict(virtual_conflict) => crate::runs::narrow_4_wide_2(
+        Request::VirtualConflict(virtual_conflict) => record_fields::runs::narrow_4_wide_2(
             out,
             pos,
             kind::VIRTUAL_CONFLICT_LENGTH,
@@ -34,15 +34,15 @@ fn put_request(out: &mut [u8], pos: usize, request: Request) -> usize
             virtual_conflict.vertex.0,
             virtual_conflict.virtual_vertex.0,
         ),
-        Request::Expansion(expansion) => crate::runs::narrow_3(
+        Request::Expansion(expansion) => record_fields::runs::narrow_3(
             out,
             pos,
             kind::EXPANSION_LENGTH,
             kind::EXPANSION,
             expansion.node.0,
         ),
-        Request::Reset => crate::runs::narrow_2(out, pos, kind::RESET_LENGTH, kind::RESET),
-        Request::List => crate::runs::narrow_2(out, pos, kind::LIST_LENGTH, kind::LIST),
+        Request::Reset => record_fields::runs::narrow_2(out, pos, kind::RESET_LENGTH, kind::RESET),
+        Request::List => record_fields::runs::narrow_2(out, pos, kind::LIST_LENGTH, kind::LIST),
     }
 }
 

@@ -1,8 +1,8 @@
 use Rattle.record.proofs.Written.{joined}
 use mathlib.Core.Path.{refl}
 use borrow.Author.Needs.{needs}
-use Rattle.record_writing.proofs.fields.four.Statement.{statement}
-use Rattle.record_writing.proofs.fields.four.Tie as tie
+use Rattle.record_fields.proofs.four.Statement.{statement}
+use Rattle.record_fields.proofs.four.Tie as tie
 
 pub four-spec : {M : Type 1} → statement M
 four-spec = tie.close (tie.spec

@@ -1,9 +1,9 @@
-use Rattle.record_writing.proofs.FieldsLaws.{four-halves}
+use Rattle.record_fields.proofs.FieldsLaws.{four-halves}
 use Rattle.record.specs.Writing.{placed}
 use mathlib.Core.Path.{_∙_, ap}
 use borrow.Author.Needs.{needs}
-use Rattle.record_writing.proofs.fields.two_wide.Statement.{statement}
-use Rattle.record_writing.proofs.fields.two_wide.Tie as tie
+use Rattle.record_fields.proofs.two_wide.Statement.{statement}
+use Rattle.record_fields.proofs.two_wide.Tie as tie
 
 pub two-wide-spec : {M : Type 1} → statement M
 two-wide-spec =

@@ -14,7 +14,7 @@ pub fn narrow_2(out: &mut [u8], pos: usize, a: u16, b: u16) -> usize
     if out.len() - 4 < pos {
         return pos;
     }
-    crate::fields::two(out, pos, a, b);
+    crate::two(out, pos, a, b);
     pos + 4
 }
 
@@ -27,8 +27,8 @@ pub fn narrow_3(out: &mut [u8], pos: usize, a: u16, b: u16, c: u16) -> usize
     if out.len() - 6 < pos {
         return pos;
     }
-    crate::fields::two(out, pos, a, b);
-    crate::fields::narrow(out, pos + 4, c);
+    crate::two(out, pos, a, b);
+    crate::narrow(out, pos + 4, c);
     pos + 6
 }
 
@@ -41,7 +41,7 @@ pub fn narrow_4(out: &mut [u8], pos: usize, a: u16, b: u16, c: u16, d: u16) -> u
     if out.len() - 8 < pos {
         return pos;
     }
-    crate::fields::four(out, pos, a, b, c, d);
+    crate::four(out, pos, a, b, c, d);
     pos + 8
 }
 
@@ -54,9 +54,9 @@ pub fn narrow_3_wide_2(out: &mut [u8], pos: usize, a: u16, b: u16, c: u16, d: u3
     if out.len() - 14 < pos {
         return pos;
     }
-    crate::fields::two(out, pos, a, b);
-    crate::fields::narrow(out, pos + 4, c);
-    crate::fields::two_wide(out, pos + 6, d, e);
+    crate::two(out, pos, a, b);
+    crate::narrow(out, pos + 4, c);
+    crate::two_wide(out, pos + 6, d, e);
     pos + 14
 }
 
@@ -78,8 +78,8 @@ pub fn narrow_4_wide_2(
     if out.len() - 16 < pos {
         return pos;
     }
-    crate::fields::four(out, pos, a, b, c, d);
-    crate::fields::two_wide(out, pos + 8, e, f);
+    crate::four(out, pos, a, b, c, d);
+    crate::two_wide(out, pos + 8, e, f);
     pos + 16
 }
 
@@ -103,8 +103,8 @@ pub fn narrow_6_wide_2(
     if out.len() - 20 < pos {
         return pos;
     }
-    crate::fields::four(out, pos, a, b, c, d);
-    crate::fields::two(out, pos + 8, e, f);
-    crate::fields::two_wide(out, pos + 12, g, h);
+    crate::four(out, pos, a, b, c, d);
+    crate::two(out, pos + 8, e, f);
+    crate::two_wide(out, pos + 12, g, h);
     pos + 20
 }

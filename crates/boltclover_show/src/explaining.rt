@@ -1,22 +1,17 @@
 // A refusal in words: which node or field of the request, and what stands there. The number is given by the call that refused; here
 // it is only told what it was given for, on the same table, which the refusal left as it was.
-mod conflict;
-mod expansion;
-mod node;
-mod reason;
-mod virtual_conflict;
 
-use reason::Reason;
+use crate::reason::Reason;
 use record::Request;
 use table::Table;
 
 fn why(t: &Table, request: Request, number: u16) -> Reason {
     match request {
-        Request::Conflict(c) => conflict::why(t, c, number),
-        Request::VirtualConflict(c) => virtual_conflict::why(t, c, number),
-        Request::Expansion(e) => expansion::why(t, e, number),
-        Request::Reset => reason::unknown(),
-        Request::List => reason::unknown(),
+        Request::Conflict(c) => crate::conflict::why(t, c, number),
+        Request::VirtualConflict(c) => crate::virtual_conflict::why(t, c, number),
+        Request::Expansion(e) => crate::expansion::why(t, e, number),
+        Request::Reset => crate::reason::unknown(),
+        Request::List => crate::reason::unknown(),
     }
 }
 
@@ -37,7 +32,7 @@ pub fn write_refusal(
     number: u16,
 ) -> usize {
     let reason = why(t, request, number);
-    if reason.line == reason::UNKNOWN {
+    if reason.line == crate::reason::UNKNOWN {
         return write_plain(out, pos, number);
     }
     text::write_reason(out, pos, reason.line, reason.a, reason.b, reason.c)

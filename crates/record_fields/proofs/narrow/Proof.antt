@@ -3,8 +3,8 @@ use mathlib.Core.Path.{refl}
 use native.Mathlib.Omega.{arith}
 use lib.ListN.{length-set}
 use borrow.Author.Needs.{needs}
-use Rattle.record_writing.proofs.fields.narrow.Statement.{statement}
-use Rattle.record_writing.proofs.fields.narrow.Tie as tie
+use Rattle.record_fields.proofs.narrow.Statement.{statement}
+use Rattle.record_fields.proofs.narrow.Tie as tie
 
 pub narrow-spec : {M : Type 1} → statement M
 unfolding placed

@@ -1,8 +1,8 @@
 use Rattle.record.proofs.Written.{joined}
 use mathlib.Core.Path.{refl}
 use borrow.Author.Needs.{needs}
-use Rattle.record_writing.proofs.fields.two.Statement.{statement}
-use Rattle.record_writing.proofs.fields.two.Tie as tie
+use Rattle.record_fields.proofs.two.Statement.{statement}
+use Rattle.record_fields.proofs.two.Tie as tie
 
 pub two-spec : {M : Type 1} → statement M
 two-spec = tie.close (tie.spec

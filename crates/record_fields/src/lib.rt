@@ -1,4 +1,6 @@
 // Fields placed in lent bytes, low byte first, where the caller knows that there is room.
+pub mod runs;
+
 ghost use mathlib.Core.Path.{_≡_};
 ghost use mathlib.Core.List.{[], _∷_};
 ghost use Prim.Native.Nat.{_+_, _≤_};
