@@ -1,12 +1,15 @@
 // The program of the rules: runs the tape on standard input, at most 65,536 bytes, on a fresh table of begin 128, or of the first
 // argument, and writes the answers to standard output. A tape that goes bad ends with an end record 12. A tape that is bad, or
-// longer, is named on standard error too. What is done with a tape is said of the crate `program`; here is its input and output.
+// longer, is named on standard error too. What is done with a tape stands in `turns`; here is its input and output.
+mod turns;
+
 use boltclover_shared::Ending;
 use libc::STDIN_FILENO;
-use program::Turn;
-use program::TurnEnd;
 use refusal::Answer;
 use table::Table;
+use tape::turn;
+use tape::turn::Turn;
+use tape::turn::TurnEnd;
 
 fn complain_of_record(at: usize, rest: &[u8]) {
     let mut space = io::buffer();
@@ -17,7 +20,7 @@ fn complain_of_record(at: usize, rest: &[u8]) {
 
 fn end_bad_tape(tape: &[u8], unread: usize) -> Ending {
     if unread <= tape.len() {
-        complain_of_record(tape.len() - unread, program::rest(tape, unread));
+        complain_of_record(tape.len() - unread, turn::rest(tape, unread));
     }
     Ending::Badly
 }
@@ -42,9 +45,9 @@ fn what_follows(turn: Turn, tape: &[u8]) -> Next {
 fn answer_once(t: &mut Table, tape: &[u8], unread: usize) -> Next {
     let mut space = io::large_buffer();
     let out: &mut [u8] = &mut space;
-    let turn = program::take_turn(t, program::rest(tape, unread), out);
-    let next = what_follows(turn, tape);
-    if !boltclover_shared::write_first(out, turn.written) {
+    let taken = turns::take_turn(t, turn::rest(tape, unread), out);
+    let next = what_follows(taken, tape);
+    if !boltclover_shared::write_first(out, taken.written) {
         return Next::End(Ending::Badly);
     }
     next
@@ -53,7 +56,7 @@ fn answer_once(t: &mut Table, tape: &[u8], unread: usize) -> Next {
 // Each turn that goes on handles at least one record of four bytes, so no tape uses up the turns.
 fn answer(t: &mut Table, tape: &[u8]) -> Ending {
     let mut unread = tape.len();
-    let mut turns = program::most_bytes();
+    let mut turns = turn::most_bytes();
     while 0 < turns {
         match answer_once(t, tape, unread) {
             Next::Turn(left) => {
@@ -84,7 +87,7 @@ fn end_cut_tape() -> Ending {
 
 fn answer_tape(t: &mut Table, tape: &[u8]) -> Ending {
     let ending = answer(t, tape);
-    if tape.len() < program::most_bytes() {
+    if tape.len() < turn::most_bytes() {
         return ending;
     }
     if is_longer() {
@@ -97,7 +100,7 @@ fn serve() -> Ending {
     let mut tape = io::large_buffer();
     let n = io::read_full(STDIN_FILENO, &mut tape);
     let mut table = [0u16; table::layout::WORDS];
-    match primal::make(&mut table, boltclover_shared::begin(program::begin())) {
+    match primal::make(&mut table, boltclover_shared::begin(turn::begin())) {
         Answer::Done(_) => answer_tape(&mut table, &tape[..n]),
         Answer::Refused(_) => boltclover_shared::end_bad_begin(),
     }

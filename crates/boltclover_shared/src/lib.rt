@@ -2,7 +2,7 @@
 use libc::STDERR_FILENO;
 use libc::STDIN_FILENO;
 use libc::STDOUT_FILENO;
-use text::decimals::Number;
+use text_decimals::Number;
 
 // A Rattle program has no exit status. It writes one to this descriptor, from which the script takes it; where nothing is open
 // there, it is written nowhere.
@@ -34,7 +34,7 @@ pub fn begin(usual: u16) -> u16 {
     }
     let mut word = io::buffer();
     let n = os::arg(1, &mut word);
-    match text::decimals::read_decimal(&word[..n], 256) {
+    match text_decimals::read_decimal(&word[..n], 256) {
         Number::Is(number) => small(number),
         Number::Unreadable => 0,
     }

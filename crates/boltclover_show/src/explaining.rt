@@ -19,7 +19,7 @@ fn why(t: &Table, request: Request, number: u16) -> Reason {
 fn write_plain(out: &mut [u8], pos: usize, number: u16) -> usize {
     let mut space = [0u8; 6];
     let record: &mut [u8] = &mut space;
-    record_writing::answers::end(record, 0, number);
+    record_answers::end(record, 0, number);
     text::write_records(out, pos, record)
 }
 

@@ -13,7 +13,7 @@ pub fn complain_of_length(number: u64) {
     let mut space = io::buffer();
     let line: &mut [u8] = &mut space;
     let p = text::write_named(line, 0, b"line ", number);
-    let n = text::decimals::write_bytes(line, p, b": longer than 65535 bytes\n");
+    let n = text_decimals::write_bytes(line, p, b": longer than 65535 bytes\n");
     boltclover_shared::complain_first(line, n);
 }
 

@@ -8,7 +8,7 @@ use turns::Count;
 
 fn write_count(line: &mut [u8], count: Count) -> usize {
     let p = text::write_named(line, 0, b"", count.bad);
-    text::decimals::write_bytes(
+    text_decimals::write_bytes(
         line,
         p,
         b" of its lines cannot be read, so no tape is written\n",

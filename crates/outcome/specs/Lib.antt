@@ -1,4 +1,5 @@
 pub mod Handled
 pub mod Call
 pub mod Tape
+pub mod Told
 pub mod Numbered

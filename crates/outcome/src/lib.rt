@@ -1,4 +1,7 @@
-// What each call promises, and what it answers on a table that is known to be sound, in specs/; and the room that it has.
+// What each call promises, and what it answers on a table that is known to be sound, in specs/; the room that it has; and requests
+// and answers in plain numbers.
+pub mod numbered;
+
 ghost use mathlib.Core.Path.{_≡_};
 ghost use Prim.Native.Nat.{_-_};
 ghost use lib.ListN.{length};

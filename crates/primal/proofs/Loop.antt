@@ -6,9 +6,7 @@ use mathlib.Core.Logic.{_⊎_, inl, inr}
 use Prim.Native.Nat.{ℕ, zero, suc, _+_, _-_, _≤_, _<_}
 use native.Mathlib.Omega.{arith}
 use native.Mathlib.Decide.{decLt}
-use native.Mathlib.Nat.{le-refl}
-use lib.ListN.{length, take, drop, length-drop}
-use lib.Seq.{take-all}
+use lib.ListN.{length, drop}
 use borrow.Author.Tests.{eq-eqb, ne-eqb, lt-ltb, le-ltb}
 use Rattle.lists.proofs.Budget.{fewer}
 use Rattle.table.specs.Words.{tableOf}
@@ -21,15 +19,11 @@ use Rattle.rules.specs.Act.{World, worldOf}
 use Rattle.rules.specs.Sound.{sound}
 use Rattle.rules.specs.Run.{Stop, tapeEmpty, allowanceUsed, outputFull, badRecord, stopNumber, Progress, stopped, room, served, began, runFrom, runTape}
 use Rattle.theorems_soundness.proofs.Reflect.{same-or-not}
-use Rattle.primal.specs.declared.stopping.Next.{Next}
-use Rattle.primal.specs.declared.stopping.Next.the-variants as N
-use Rattle.primal.specs.Next.{nextOf}
-use Rattle.primal.proofs.StoppingSteps as next
+use Rattle.tape.specs.declared.next.Next.{Next}
+use Rattle.tape.specs.declared.next.Next.the-variants as N
+use Rattle.tape.specs.Next.{nextOf}
+use Rattle.tape.proofs.NextSteps as next
 use Rattle.outcome.specs.Tape.{Tape}
-
--- what `&l[n..]` is
-pub tail : (l : List ℕ) (n : ℕ) → take (length l - n) (drop n l) ≡ drop n l
-tail l n = take-all (length l - n) (drop n l) (rw length-drop (le-refl (length l - n)))
 
 abbrev pub stands : World → List ℕ → ℕ → Progress
 stands w rest handled = record { world = w; rest = rest; handled = handled }

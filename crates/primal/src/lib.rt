@@ -1,9 +1,7 @@
 // The public calls of the rules (docs/RULES-IN-WORDS.md), and nothing else. None asks anything of its caller: any table, request, tape, buffer and
 // position may be passed.
 mod serving;
-pub mod stopping;
 
-use crate::stopping::Next;
 use record::Conflict;
 use record::Expansion;
 use record::Reading;
@@ -13,6 +11,7 @@ use record::VirtualConflict;
 use refusal::Answer;
 use refusal::Refusal;
 use table::Table;
+use tape::next::Next;
 ghost use mathlib.Core.Path.{_≡_};
 ghost use Rattle.table.specs.Words.{tableOf};
 ghost use Rattle.table.specs.Making.{Made};
@@ -28,7 +27,7 @@ ghost use Rattle.outcome.specs.Tape.{Tape};
 pub fn make(t: &mut Table, begin: u16) -> Answer
     ensures { λ r. ⌜ Made (now (t .entry)) begin r (now (t .exit)) ⌝ }
 {
-    table::making::make(t, begin)
+    table_making::make(t, begin)
 }
 
 // Reset: every slot empty and both counts 0, or refusal 1.
@@ -38,7 +37,7 @@ pub fn reset(t: &mut Table) -> Answer
     if !sound::is_sound(t) {
         return Answer::Refused(Refusal::NotSound);
     }
-    requests::resetting::reset(t);
+    table_making::resetting::reset(t);
     Answer::Done(0)
 }
 
@@ -134,7 +133,7 @@ pub fn run<'a>(
     let mut pos: usize = 0;
     let mut count: u32 = 0;
     loop {
-        match crate::stopping::what_next(rest, left, outcome::room(out, pos)) {
+        match tape::next::what_next(rest, left, outcome::room(out, pos)) {
             Next::Stop(number) => {
                 *stop = number;
                 *refusal = 0;

@@ -18,12 +18,8 @@ fn end(out: &mut [u8], pos: usize, answer: Answer) -> usize
     ensures { λ r. ⌜ outOf (now (out .exit)) r ≡ written (outOf (now (out .entry)) (posAfter pos answer)) (answerBytes (R.End (answerNumber answer))) ⌝ }
 {
     match answer {
-        Answer::Done(after) => record_writing::answers::end(out, after, 0),
-        Answer::Refused(refusal) => record_writing::answers::end(
-            out,
-            pos,
-            refusal::number(refusal),
-        ),
+        Answer::Done(after) => record_answers::end(out, after, 0),
+        Answer::Refused(refusal) => record_answers::end(out, pos, refusal::number(refusal)),
     }
 }
 
@@ -51,7 +47,7 @@ fn serve_expansion(t: &mut Table, out: &mut [u8], pos: usize, e: Expansion) -> u
 fn serve_reset(t: &mut Table, out: &mut [u8], pos: usize) -> usize
     ensures { λ r. ⌜ Serves Q.Reset pos (now (t .entry)) (now (out .entry)) r (now (t .exit)) (now (out .exit)) ⌝ }
 {
-    requests::resetting::reset(t);
+    table_making::resetting::reset(t);
     end(out, pos, Answer::Done(pos))
 }
 

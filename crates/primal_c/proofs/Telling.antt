@@ -22,7 +22,7 @@ use Rattle.rules.specs.Run.{Ran, unsound, ran, runTape}
 use Rattle.outcome.specs.Handled.{Outcome}
 use Rattle.outcome.specs.Tape.{HandsOut, Tape}
 use Rattle.outcome.specs.Call.{Call, Reset}
-use Rattle.primal_c.specs.Told.{Told}
+use Rattle.outcome.specs.Told.{Told}
 use Rattle.outcome.specs.Numbered.{Numbered, Called, WasReset, WasMade, RanTape, Run}
 
 told-by :

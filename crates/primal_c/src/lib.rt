@@ -1,7 +1,6 @@
 // The public calls for C and Rust, as `include/boltclover.h` declares them. Each passes its arguments to the call of the same
 // name in `primal` and tells the answer in numbers. A slice is a pointer and a length.
-pub mod numbered;
-
+use outcome::numbered;
 use table::Table;
 ghost use mathlib.Core.Path.{_≡_};
 ghost use mathlib.Core.List.{[], _∷_};
@@ -48,9 +47,9 @@ pub extern "C" fn boltclover_conflict(
 ) -> u16
     ensures { λ r. ⌜ Called (Q.Conflict (conflictFrom (node_1 ∷ node_2 ∷ touch_1 ∷ touch_2 ∷ vertex_1 ∷ vertex_2 ∷ []))) (now (table .entry)) (now (out .entry)) r (now (written .exit)) (now (table .exit)) (now (out .exit)) ⌝ }
 {
-    let request = crate::numbered::conflict(node_1, node_2, touch_1, touch_2, vertex_1, vertex_2);
+    let request = numbered::conflict(node_1, node_2, touch_1, touch_2, vertex_1, vertex_2);
     let answer = primal::conflict(table, out, request);
-    crate::numbered::tell(answer, written)
+    numbered::tell(answer, written)
 }
 
 #[no_mangle]
@@ -65,9 +64,9 @@ pub extern "C" fn boltclover_virtual_conflict(
 ) -> u16
     ensures { λ r. ⌜ Called (Q.VirtualConflict (virtualFrom (node ∷ touch ∷ vertex ∷ «virtual_vertex» ∷ []))) (now (table .entry)) (now (out .entry)) r (now (written .exit)) (now (table .exit)) (now (out .exit)) ⌝ }
 {
-    let request = crate::numbered::virtual_conflict(node, touch, vertex, virtual_vertex);
+    let request = numbered::virtual_conflict(node, touch, vertex, virtual_vertex);
     let answer = primal::virtual_conflict(table, out, request);
-    crate::numbered::tell(answer, written)
+    numbered::tell(answer, written)
 }
 
 #[no_mangle]
@@ -79,9 +78,9 @@ pub extern "C" fn boltclover_expand(
 ) -> u16
     ensures { λ r. ⌜ Called (Q.Expansion (expansionFrom (node ∷ []))) (now (table .entry)) (now (out .entry)) r (now (written .exit)) (now (table .exit)) (now (out .exit)) ⌝ }
 {
-    let request = crate::numbered::expansion(node);
+    let request = numbered::expansion(node);
     let answer = primal::expand(table, out, request);
-    crate::numbered::tell(answer, written)
+    numbered::tell(answer, written)
 }
 
 #[no_mangle]
@@ -89,7 +88,7 @@ pub extern "C" fn boltclover_list(table: &Table, out: &mut [u8], written: &mut u
     ensures { λ r. ⌜ Called Q.List (now (table .entry)) (now (out .entry)) r (now (written .exit)) (now (table .entry)) (now (out .exit)) ⌝ }
 {
     let answer = primal::list(table, out);
-    crate::numbered::tell(answer, written)
+    numbered::tell(answer, written)
 }
 
 #[no_mangle]

@@ -1,5 +1,4 @@
 // Writing an answer, whichever it is: the public call.
-pub mod answers;
 pub mod requests;
 
 use record::Record;
@@ -14,12 +13,12 @@ fn emit(out: &mut [u8], pos: usize, answer: Record) -> usize
     ensures { λ r. ⌜ outOf (now (out .exit)) r ≡ written (outOf (now (out .entry)) pos) (answerBytes answer) ⌝ }
 {
     match answer {
-        Record::Speed(node, speed) => crate::answers::speed(out, pos, node, speed),
-        Record::Create(blossom) => crate::answers::create(out, pos, blossom),
-        Record::Expand(blossom) => crate::answers::expand(out, pos, blossom),
-        Record::End(number) => crate::answers::end(out, pos, number),
-        Record::Pair(pair) => crate::answers::pair(out, pos, pair),
-        Record::VirtualPair(pair) => crate::answers::virtual_pair(out, pos, pair),
+        Record::Speed(node, speed) => record_answers::speed(out, pos, node, speed),
+        Record::Create(blossom) => record_answers::create(out, pos, blossom),
+        Record::Expand(blossom) => record_answers::expand(out, pos, blossom),
+        Record::End(number) => record_answers::end(out, pos, number),
+        Record::Pair(pair) => record_answers::pair(out, pos, pair),
+        Record::VirtualPair(pair) => record_answers::virtual_pair(out, pos, pair),
     }
 }
 

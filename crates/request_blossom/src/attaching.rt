@@ -35,7 +35,7 @@ fn attach_node(
 ) -> usize
     ensures { λ r. ⌜ worldOf (now (t .exit)) (now (out .exit)) r ≡ run (worldOf (now (t .entry)) (now (out .entry)) pos) (attach (n .0) grow (parent .0) (child .0) (linkOf link)) ⌝ }
 {
-    let end = record_writing::answers::speed(out, pos, n, speed_by(grow));
+    let end = record_answers::speed(out, pos, n, speed_by(grow));
     request_matching::altering::shape(
         t,
         n,

@@ -38,7 +38,7 @@ fn expand_blossom(
     let above = s.parent;
     let below = s.first_child;
     let link = s.link;
-    let expanded = record_writing::answers::expand(out, pos, b);
+    let expanded = record_answers::expand(out, pos, b);
     let end = crate::opening::open_ring(t, out, expanded, p, c, above, below, link);
     dispose_blossom(t, b, p, c, above, below);
     end

@@ -61,5 +61,5 @@ pub fn create_blossom(
     place_blossom(t, b, m);
     transfer::transfer_two_paths(t, b, m, x, y);
     crate::ringing::connect_ring(t, b, m, x, y, link);
-    record_writing::answers::create(out, pos, b)
+    record_answers::create(out, pos, b)
 }

@@ -48,7 +48,7 @@ pub fn list_pair(
     let peer_touch = link.peer_touch;
     let p = list_inside(t, out, pos, n, touch, left - 1);
     let q = list_inside(t, out, p, peer, peer_touch, left - 1);
-    record_writing::answers::pair(out, q, pair_entry(link))
+    record_answers::pair(out, q, pair_entry(link))
 }
 
 // The pairs inside a node that is touched here, if it is a blossom.

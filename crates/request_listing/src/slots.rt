@@ -45,7 +45,7 @@ fn list_virtual(t: &Table, out: &mut [u8], pos: usize, n: Node) -> usize
     let link = field::link(t, n);
     let touch = link.touch;
     let p = crate::pairs::list_inside(t, out, pos, n, touch, 256);
-    record_writing::answers::virtual_pair(out, p, virtual_entry(link))
+    record_answers::virtual_pair(out, p, virtual_entry(link))
 }
 
 pub fn list_slot(t: &Table, out: &mut [u8], pos: usize, n: Node) -> usize

@@ -74,9 +74,9 @@ pub fn grow_tree(
 ) -> usize
     ensures { λ r. ⌜ worldOf (now (t .exit)) (now (out .exit)) r ≡ run (worldOf (now (t .entry)) (now (out .entry)) pos) (growTree (root .0) (linkOf link) (matched .0) (peer .0)) ⌝ }
 {
-    let p = record_writing::answers::speed(out, pos, root, Speed::Grow);
-    let q = record_writing::answers::speed(out, p, matched, Speed::Shrink);
-    let end = record_writing::answers::speed(out, q, peer, Speed::Grow);
+    let p = record_answers::speed(out, pos, root, Speed::Grow);
+    let q = record_answers::speed(out, p, matched, Speed::Shrink);
+    let end = record_answers::speed(out, q, peer, Speed::Grow);
     set_root(t, root, matched);
     set_minus(t, matched, root, peer, Node(slot::number::NO_NODE), link);
     set_leaf(t, peer, matched);
@@ -95,8 +95,8 @@ pub fn hang_pair(
 ) -> usize
     ensures { λ r. ⌜ worldOf (now (t .exit)) (now (out .exit)) r ≡ run (worldOf (now (t .entry)) (now (out .entry)) pos) (hangPair (plus .0) (linkOf link) (matched .0) (peer .0)) ⌝ }
 {
-    let p = record_writing::answers::speed(out, pos, matched, Speed::Shrink);
-    let end = record_writing::answers::speed(out, p, peer, Speed::Grow);
+    let p = record_answers::speed(out, pos, matched, Speed::Shrink);
+    let end = record_answers::speed(out, p, peer, Speed::Grow);
     let first_child = table::field::first_child(t, plus);
     crate::altering::set_first_child(t, plus, matched);
     set_minus(t, matched, plus, peer, first_child, link);

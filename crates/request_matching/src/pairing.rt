@@ -37,8 +37,8 @@ pub fn temporary_match(
 ) -> usize
     ensures { λ r. ⌜ worldOf (now (t .exit)) (now (out .exit)) r ≡ run (worldOf (now (t .entry)) (now (out .entry)) pos) (temporaryMatch (a .0) (linkOf link) (b .0)) ⌝ }
 {
-    let after_a = record_writing::answers::speed(out, pos, a, Speed::Stay);
-    let after_b = record_writing::answers::speed(out, after_a, b, Speed::Stay);
+    let after_a = record_answers::speed(out, pos, a, Speed::Stay);
+    let after_b = record_answers::speed(out, after_a, b, Speed::Stay);
     settle(t, a, b, link);
     settle(t, b, a, slot::link::mirrored(link));
     after_b
@@ -62,7 +62,7 @@ pub fn temporary_match_virtual(
         peer_touch: Node(slot::number::NO_NODE),
         peer_through: virtual_vertex,
     };
-    let end = record_writing::answers::speed(out, pos, n, Speed::Stay);
+    let end = record_answers::speed(out, pos, n, Speed::Stay);
     settle(t, n, Node(slot::number::NO_NODE), link);
     end
 }

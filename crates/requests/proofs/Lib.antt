@@ -1,3 +1,2 @@
 pub mod ConflictsSteps
 pub mod VirtualConflictsSteps
-pub mod Emptied

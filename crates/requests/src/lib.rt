@@ -1,6 +1,5 @@
-// Conflict, virtual conflict and reset, each on a table that is known to be sound. Expansion stands with the blossoms, the listing in a
+// Conflict and virtual conflict, each on a table that is known to be sound. Expansion stands with the blossoms, the listing in a
 // crate of its own.
 pub mod conflicts;
-pub mod resetting;
 pub mod resolving;
 pub mod virtual_conflicts;

@@ -3,8 +3,6 @@ pub mod TableLaws
 pub mod Determined
 pub mod WordsOfCounts
 pub mod BlossomEnd
-pub mod Cleared
-pub mod Fresh
 pub mod ByState
 pub mod Climbs
 pub mod NodesExamples

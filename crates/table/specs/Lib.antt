@@ -3,7 +3,6 @@ pub mod Layout
 pub mod Words
 pub mod Counts
 pub mod Making
-pub mod Cleared
 pub mod Nodes
 pub mod Climb
 pub mod Place

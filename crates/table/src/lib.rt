@@ -4,7 +4,6 @@ pub mod climb;
 pub mod counts;
 pub mod field;
 pub mod layout;
-pub mod making;
 pub mod place;
 pub mod storing;
 

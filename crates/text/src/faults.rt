@@ -1,10 +1,10 @@
 // What is wrong with a line that is no request: where, and what was expected there.
-use crate::decimals::write_bytes;
 use crate::forms;
 use crate::forms::FORMS;
 use crate::line::Fault;
 use crate::pieces::nth;
 use crate::writing::write_named;
+use text_decimals::write_bytes;
 
 fn write_expected_number(out: &mut [u8], pos: usize, mark: u8) -> usize {
     if mark == b'n' {

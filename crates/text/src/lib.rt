@@ -1,5 +1,4 @@
 // Requests and answers in words, a line each, and back. An answer's line is indented by two spaces.
-pub mod decimals;
 mod faults;
 mod fields;
 mod forms;

@@ -1,5 +1,4 @@
 // One line, read as a request.
-use crate::decimals::Number;
 use crate::fields::none;
 use crate::fields::place;
 use crate::fields::put;
@@ -11,6 +10,7 @@ use crate::words::is_blank;
 use crate::words::same_word;
 use crate::words::start_of;
 use crate::words::word_from;
+use text_decimals::Number;
 
 // What a line says.
 pub enum Line {
@@ -36,7 +36,7 @@ fn number(word: &[u8], none: u32) -> Number {
     if same_word(word, b"none") {
         return Number::Is(none);
     }
-    crate::decimals::read_decimal(word, none)
+    text_decimals::read_decimal(word, none)
 }
 
 // Whether a word is the form's; where that is a mark, the number goes to its place in the record.

@@ -1,11 +1,11 @@
 // Refusals in words that say which node or field, and what stands there.
-use crate::decimals::write_bytes;
 use crate::fields::narrow_at;
 use crate::fields::put;
 use crate::pieces::nth;
 use crate::writing::write_form;
 use crate::writing::write_named;
 use record::Kind;
+use text_decimals::write_bytes;
 
 // Why a request is refused: each has its line in REASONS, with up to three numbers.
 pub const PAST_THE_TABLE: usize = 1;

@@ -1,11 +1,11 @@
 // Lines written in lent bytes, at pos. Each function returns the position after what it wrote.
-use crate::decimals::write_bytes;
-use crate::decimals::write_decimal;
 use crate::fields::field;
 use crate::fields::narrow_at;
 use crate::fields::none;
 use crate::forms;
 use crate::pieces::nth;
+use text_decimals::write_bytes;
+use text_decimals::write_decimal;
 ghost use Prim.Native.Nat.{_≤_};
 ghost use lib.ListN.{length};
 

@@ -4,6 +4,7 @@ pub mod RulesApply
 pub mod RefusalExamples
 pub mod SoundExamples
 pub mod RunExamples
+pub mod TurnExamples
 pub mod NamedExamples
 pub mod OrderExamples
 pub mod MostCommands

@@ -6,7 +6,7 @@ use Rattle.record.specs.declared.request.Request.{Request}
 use Rattle.rules.specs.Listing.{listing}
 use Rattle.rules.specs.Script.{meet, join, border, after, acceptedInTurn}
 use Rattle.rules.specs.Scenarios.{start, nested}
-use Rattle.theorems_listing.specs.Named.{namedIn, one, times, isListed}
+use Rattle.theorems_requests.specs.Named.{namedIn, one, times, isListed}
 use Rattle.rules.proofs.Script.{all-rules}
 use Rattle.outcome.specs.Handled.{laterVerdict}
 use Rattle.theorems_examples.proofs.InTurn.{acceptedLater, played}

@@ -13,8 +13,8 @@ use Rattle.rules.specs.Script.{meet, join, border, open-up, after, acceptedInTu
 use Rattle.rules.proofs.Script.{all-rules}
 use Rattle.outcome.specs.Handled.{laterVerdict}
 use Rattle.theorems_examples.proofs.InTurn.{acceptedLater, played}
-use Rattle.theorems_orders.specs.Orders.{Ask, AllAsked, PairwiseApart}
-use Rattle.theorems_orders.proofs.Areas.{apart-by-test}
+use Rattle.theorems_requests.specs.Orders.{Ask, AllAsked, PairwiseApart}
+use Rattle.theorems_requests.proofs.Areas.{apart-by-test}
 use Rattle.theorems_kept.specs.RuleFacts.{Whole}
 use Rattle.theorems_kept.proofs.Wholes.{to-whole}
 

@@ -28,9 +28,9 @@ use Rattle.theorems_promises.specs.InARow.{tapeOf, inARow}
 use Rattle.theorems_promises.proofs.SoundAfter.{made-is-sound}
 use Rattle.theorems_promises.proofs.Determining.{MadeBy}
 use Rattle.theorems_promises.proofs.TapeEnd.{before-rest}
-use Rattle.program.specs.declared.TurnEnd.{TurnEnd}
-use Rattle.program.specs.declared.TurnEnd.the-variants.{TapeRead, GoesOn, BadTape, NotSound}
-use Rattle.program.specs.Program.{lastRecords}
+use Rattle.tape.specs.Program.{lastRecords}
+use Rattle.tape.specs.declared.turn.TurnEnd.{TurnEnd}
+use Rattle.tape.specs.declared.turn.TurnEnd.the-variants.{TapeRead, GoesOn, BadTape, NotSound}
 use Rattle.theorems_promises.specs.Turns.{OneTurn, restAfter, Turns, last, next, allWritten, allHandled, howMany, lastEnd, lastWords, lastRest, RestBy}
 use Rattle.theorems_promises.specs.Written.{allRequests, endOfTape, programWrites}
 use Rattle.theorems_promises.proofs.RowsJoined.{requests-joined, between-joined, joined-table, joined-bytes, bytes-of-joined, four-each}

@@ -21,8 +21,8 @@ use Rattle.rules.specs.Act.{World, worldOf, run, skip}
 use Rattle.rules.specs.Calls.{actOf, verdict, answered}
 use Rattle.rules.specs.Run.{requestsOf}
 use Rattle.theorems_kept.proofs.Wholes.{to-whole}
-use Rattle.theorems_listing.proofs.ListingRoom.{run-written}
-use Rattle.theorems_commands.proofs.AnsweredBytes.{answered-bytes}
+use Rattle.theorems_requests.proofs.ListingRoom.{run-written}
+use Rattle.theorems_requests.proofs.AnsweredBytes.{answered-bytes}
 use Rattle.outcome.specs.Handled.{Outcome}
 use Rattle.outcome.specs.Call.{Call}
 use Rattle.outcome.specs.Tape.{Tape}

@@ -26,9 +26,9 @@ use Rattle.theorems_soundness.proofs.InsideLaws.{inside-present}
 use Rattle.theorems_kept.specs.RuleFacts.{Whole}
 use Rattle.theorems_kept.proofs.AcceptedRequests.{acceptable, acceptable-expansion}
 use Rattle.theorems_kept.proofs.Expanding.{top-held, bottom-held}
-use Rattle.theorems_orders.proofs.Within.{Closed, Alike, Moved, alike-itself}
-use Rattle.theorems_orders.proofs.ConflictWithin.{conflict-acted, virtual-acts}
-use Rattle.theorems_orders.proofs.ExpansionWithin.{expansion-acted}
+use Rattle.theorems_requests.proofs.Within.{Closed, Alike, Moved, alike-itself}
+use Rattle.theorems_requests.proofs.ConflictWithin.{conflict-acted, virtual-acts}
+use Rattle.theorems_requests.proofs.ExpansionWithin.{expansion-acted}
 use Rattle.theorems_promises.specs.Loaded.{namedForLoading}
 
 -- where a request may store: in blossom slots, in present slots, and at the nodes that it names for loading

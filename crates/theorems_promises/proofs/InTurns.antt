@@ -20,7 +20,7 @@ use Rattle.rules.specs.Sound.{sound}
 use Rattle.rules.specs.Run.{Between, requestsOf}
 use Rattle.theorems_promises.specs.InARow.{tapeOf, inARow}
 use Rattle.theorems_promises.proofs.TapeEnd.{before-rest}
-use Rattle.program.specs.declared.TurnEnd.the-variants.{GoesOn}
+use Rattle.tape.specs.declared.turn.TurnEnd.the-variants.{GoesOn}
 use Rattle.theorems_promises.specs.Turns.{OneTurn, Turns, allWritten, allHandled, howMany, lastEnd, lastWords, lastRest, RestBy}
 use Rattle.theorems_promises.specs.Written.{allRequests, programWrites}
 use Rattle.theorems_promises.proofs.RowsJoined.{four-each}

@@ -15,7 +15,7 @@ use Rattle.rules.specs.Act.{Act, skip, say, change, _then_, look, read, choose,
 use Rattle.rules.specs.Slots.{withFirstChild, isNone}
 use Rattle.rules.specs.Matching.{matchedTo, temporaryMatch, temporaryMatchVirtual, unlessNone, subtree, matchSiblings, augmentSubtree, augmentWithin, augmentWholeTree}
 use Rattle.rules.specs.Conflict.{leafBelow, rootAbove, minusBelow, growTree, hangPair}
-use Rattle.theorems_orders.proofs.Within.{slot-after}
+use Rattle.theorems_requests.proofs.Within.{slot-after}
 
 -- a table of 256 slots, with slot j present
 pub record Has (j : ℕ) (t : Table) : Type 0 where

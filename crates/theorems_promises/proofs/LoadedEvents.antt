@@ -19,7 +19,7 @@ use Rattle.rules.specs.Calls.{answered}
 use Rattle.rules.specs.Run.{Progress, room, served, runFrom, Between, requestsOf}
 use Rattle.rules.proofs.RunCounts.{records-between}
 use Rattle.rules.proofs.TapeRequests.{as-many}
-use Rattle.theorems_listing.specs.Named.{namedIn, times, isPresentDefect, AllMatched}
+use Rattle.theorems_requests.specs.Named.{namedIn, times, isPresentDefect, AllMatched}
 use Rattle.outcome.specs.Tape.{Tape}
 use Rattle.theorems_kept.proofs.Wholes.{to-whole}
 use Rattle.theorems_promises.specs.Loaded.{Events, noEvents, loadedAfter, servedAll, loadedBy}

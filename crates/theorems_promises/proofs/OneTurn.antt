@@ -20,15 +20,15 @@ use Rattle.rules.proofs.RunCounts.{run-counts}
 use Rattle.theorems_soundness.proofs.Reflect.{test-true}
 use Rattle.theorems_kept.proofs.Wholes.{to-whole}
 use Rattle.theorems_kept.proofs.Kept.{run-keeps-sound}
-use Rattle.theorems_listing.proofs.ListingRoom.{run-written}
-use Rattle.theorems_commands.proofs.AnsweredBytes.{bytes-joined}
+use Rattle.theorems_requests.proofs.ListingRoom.{run-written}
+use Rattle.theorems_requests.proofs.AnsweredBytes.{bytes-joined}
 use Rattle.theorems_promises.specs.InARow.{inARow}
 use Rattle.theorems_promises.proofs.TapeEnd.{behind-records}
 use Rattle.theorems_promises.proofs.RunInARow.{run-in-row}
-use Rattle.program.specs.declared.TurnEnd.{TurnEnd}
-use Rattle.program.specs.declared.TurnEnd.the-variants.{TapeRead, GoesOn, BadTape, NotSound}
-use Rattle.program.specs.declared.Turn.{Turn}
-use Rattle.program.specs.Program.{allowance, endOf, lastRecords, closed, TurnOf}
+use Rattle.tape.specs.declared.turn.TurnEnd.{TurnEnd}
+use Rattle.tape.specs.declared.turn.TurnEnd.the-variants.{TapeRead, GoesOn, BadTape, NotSound}
+use Rattle.tape.specs.declared.turn.Turn.{Turn}
+use Rattle.tape.specs.Program.{endOf, lastRecords, allowance, closed, TurnOf}
 use Rattle.theorems_promises.specs.Turns.{OneTurn, wrote, restAfter, RestBy}
 use Rattle.theorems_promises.proofs.RowsJoined.{bytes-of-joined}
 use Rattle.theorems_promises.proofs.WhyStopped.{StoppedFor, why-stopped, first-handled}

@@ -16,7 +16,7 @@ use Rattle.rules.specs.Script.{meet}
 use Rattle.rules.proofs.Script.{all-rules}
 use Rattle.theorems_promises.specs.InARow.{tapeOf, answeredAndEnded, inARow}
 use Rattle.rules.specs.Run.{requestsOf}
-use Rattle.program.specs.Program.{usualBegin}
+use Rattle.tape.specs.Program.{usualBegin}
 use Rattle.theorems_promises.specs.Turns.{Turns, allWritten}
 use Rattle.theorems_promises.specs.Written.{programWrites}
 use Rattle.theorems_promises.proofs.InTurns.{written-in-all}

@@ -19,8 +19,8 @@ use Rattle.rules.proofs.RunInduction.{OfRuns, AtAStop, OverARecord, run-inducti
 use Rattle.rules.proofs.TapeRequests.{first-request}
 use Rattle.theorems_kept.specs.RuleFacts.{Whole}
 use Rattle.theorems_kept.proofs.Serving.{served-whole}
-use Rattle.theorems_commands.proofs.AnsweredBytes.{bytes-joined, ended-fits}
-use Rattle.theorems_commands.proofs.CommandsFit.{verdict-in-a-run, served-written}
+use Rattle.theorems_requests.proofs.AnsweredBytes.{bytes-joined, ended-fits}
+use Rattle.theorems_requests.proofs.CommandsFit.{verdict-in-a-run, served-written}
 use Rattle.theorems_promises.specs.InARow.{answeredAndEnded, inARow}
 
 -- ---- one request

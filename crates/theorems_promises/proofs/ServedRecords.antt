@@ -7,7 +7,7 @@ use Rattle.rules.specs.Act.{World}
 use Rattle.rules.specs.Run.{Progress, room, served, runFrom, requestsOf}
 use Rattle.rules.proofs.RunInduction.{OfRuns, AtAStop, run-induction}
 use Rattle.rules.proofs.TapeRequests.{first-request}
-use Rattle.theorems_listing.specs.Named.{isPresentDefect}
+use Rattle.theorems_requests.specs.Named.{isPresentDefect}
 use Rattle.theorems_kept.specs.RuleFacts.{Whole}
 use Rattle.theorems_kept.proofs.Serving.{served-whole}
 use Rattle.theorems_promises.specs.Loaded.{Events, loadedAfter, servedAll, loadedBy}

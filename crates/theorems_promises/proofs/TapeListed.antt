@@ -16,8 +16,8 @@ use Rattle.rules.specs.Sound.{sound}
 use Rattle.rules.specs.Listing.{listing}
 use Rattle.rules.specs.Run.{ran, Ended, began, runFrom, Between, requestsOf}
 use Rattle.rules.proofs.RunCounts.{run-counts}
-use Rattle.theorems_listing.specs.Named.{namedIn, times, isPresentDefect, AllMatched}
-use Rattle.theorems_listing.proofs.EachEventOnce.{every-event-once}
+use Rattle.theorems_requests.specs.Named.{namedIn, times, isPresentDefect, AllMatched}
+use Rattle.theorems_requests.proofs.EachEventOnce.{every-event-once}
 use Rattle.outcome.specs.Tape.{HandsOut, Tape}
 use Rattle.outcome.proofs.RunOutcomes.{sound-outcome}
 use Rattle.theorems_kept.proofs.Wholes.{to-whole}

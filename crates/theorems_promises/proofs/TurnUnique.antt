@@ -14,8 +14,8 @@ use Rattle.rules.specs.Run.{Ran, unsound, ran, Ended, began, runFrom, runTape}
 use Rattle.theorems_kept.proofs.Kept.{run-keeps-sound}
 use Rattle.theorems_promises.specs.Lent.{Lent}
 use Rattle.theorems_promises.proofs.Determining.{same-words}
-use Rattle.program.specs.declared.Turn.{Turn}
-use Rattle.program.specs.Program.{allowance, TurnOf, TakesTurn}
+use Rattle.tape.specs.declared.turn.Turn.{Turn}
+use Rattle.tape.specs.Program.{allowance, TurnOf, TakesTurn}
 
 ran-from : (b : Bool) (e₀ e : Ended) → pick b (ran e₀) unsound ≡ ran e → T b × (e₀ ≡ e)
 ran-from true e₀ e q = (tt, cc)

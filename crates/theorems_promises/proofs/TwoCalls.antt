@@ -15,7 +15,7 @@ use Rattle.record.specs.declared.request.Request.{Request}
 use Rattle.record.specs.Writing.{Out, outOf, writeAll}
 use Rattle.rules.specs.Sound.{sound}
 use Rattle.rules.specs.Calls.{actOf, verdict}
-use Rattle.theorems_orders.proofs.AnyOrder.{either-order-table, r-commands, q-commands, r-still-accepted, q-still-accepted}
+use Rattle.theorems_requests.proofs.AnyOrder.{either-order-table, r-commands, q-commands, r-still-accepted, q-still-accepted}
 use Rattle.theorems_promises.specs.InOrder.{Independent, InOrder}
 use Rattle.theorems_promises.proofs.Accepted.{Done, done, accepted-sound, act-sound}
 use Rattle.theorems_promises.proofs.Determining.{same-words}

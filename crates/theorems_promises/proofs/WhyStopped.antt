@@ -19,8 +19,8 @@ use Rattle.record.specs.Reading as reading
 use Rattle.record.proofs.Read.{Way, none, short, other, whole, way, read-none, read-short, read-length, read-whole}
 use Rattle.record.proofs.Theorems.{read-bad-exactly}
 use Rattle.rules.specs.Run.{Stop, tapeEmpty, allowanceUsed, outputFull, badRecord, Progress, Ended, stopped, advanced, goOn, room, runFrom}
-use Rattle.program.specs.declared.TurnEnd.the-variants.{GoesOn}
-use Rattle.program.specs.Program.{endOf}
+use Rattle.tape.specs.Program.{endOf}
+use Rattle.tape.specs.declared.turn.TurnEnd.the-variants.{GoesOn}
 
 -- ---- a record that is not read is bad
 

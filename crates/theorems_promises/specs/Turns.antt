@@ -5,10 +5,10 @@ use mathlib.Core.List.{List, [], _++_}
 use Prim.Native.Nat.{ℕ, suc, _+_, _-_, _≤_}
 use lib.ListN.{length, take, drop}
 use Rattle.record.specs.Reading.{Bad}
-use Rattle.program.specs.declared.TurnEnd.{TurnEnd}
-use Rattle.program.specs.declared.TurnEnd.the-variants.{TapeRead, GoesOn, BadTape, NotSound}
-use Rattle.program.specs.declared.Turn.{Turn}
-use Rattle.program.specs.Program.{TakesTurn}
+use Rattle.tape.specs.declared.turn.TurnEnd.{TurnEnd}
+use Rattle.tape.specs.declared.turn.TurnEnd.the-variants.{TapeRead, GoesOn, BadTape, NotSound}
+use Rattle.tape.specs.declared.turn.Turn.{Turn}
+use Rattle.tape.specs.Program.{TakesTurn}
 
 -- a turn on these words and this tape: the bytes lent, at least as many as a run asks for, what it tells, and what it leaves. Nothing
 -- is said of how it works: only that it keeps its promise.

@@ -10,7 +10,8 @@ use Rattle.record.proofs.Read.{read-size}
 use Rattle.rules.specs.Act.{worldOf}
 use Rattle.rules.specs.Sound.{sound}
 use Rattle.rules.specs.Run.{runFrom}
-use Rattle.primal.proofs.Loop.{stands, tail, follows, unsound-out, halted-out}
+use Rattle.tape.proofs.Tails.{tail}
+use Rattle.primal.proofs.Loop.{stands, follows, unsound-out, halted-out}
 use Rattle.primal.proofs.Served.{served-world, served-sound}
 use Rattle.primal.proofs.run.Statement.{statement}
 use Rattle.primal.proofs.run.Tie as tie

@@ -23,7 +23,7 @@ use Rattle.table.proofs.field.is_outer.Reads as is-outer-reads
 use Rattle.table.proofs.field.link.Reads as link-reads
 use Rattle.table.proofs.field.parent.Reads as parent-reads
 use Rattle.table.proofs.field.sibling.Reads as sibling-reads
-use Rattle.record_writing.proofs.answers.pair.Reads as pair-reads
+use Rattle.record_answers.proofs.pair.Reads as pair-reads
 use Rattle.request_listing.proofs.pairs.+list_inside+list_levels+list_pair+list_ring.{statement}
 use Rattle.request_listing.proofs.pairs.+list_inside+list_levels+list_pair+list_ring.Tie.{close}
 

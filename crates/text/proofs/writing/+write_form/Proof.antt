@@ -5,7 +5,7 @@ use borrow.Fn.PlainCycle.{Measures, is, falls, and}
 use Rattle.text.proofs.writing.write_form.Reads as write-form
 use Rattle.text.proofs.writing.write_form.Kinds as write-form-kinds
 use Rattle.text.proofs.writing.+write_form.Lts-write_form as write-form-lts
-use Rattle.text.proofs.decimals.write_bytes.Reads as write-bytes-reads
+use Rattle.text_decimals.proofs.write_bytes.Reads as write-bytes-reads
 use Rattle.text.proofs.pieces.nth.Reads as nth-reads
 use Rattle.text.proofs.writing.write_piece.Reads as write-piece-reads
 use Rattle.text.proofs.writing.+write_form.{statement}

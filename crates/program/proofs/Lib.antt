@@ -1,2 +1,0 @@
-pub mod TurnSteps
-pub mod TurnExamples

@@ -1,0 +1,13 @@
+use Rattle.record.specs.Records.{answerBytes}
+use borrow.Author.Needs.{needs}
+use Rattle.record_answers.proofs.create.Statement.{statement}
+use Rattle.record_answers.proofs.create.Tie as tie
+
+pub create-spec : {M : Type 1} → statement M
+unfolding answerBytes
+create-spec =
+    tie.close
+    (tie.spec
+    (λ c κs. search needs)
+    (λ c. search needs)
+    (λ c. c .before .before .narrow-3 .ensures))

@@ -1,0 +1,3 @@
+pub mod NextSteps
+pub mod Tails
+pub mod TurnEndSteps
