@@ -1,13 +1,28 @@
 /* Work to count instructions of, done so many times over, with the static library.
  *
- *   driver run TIMES <TAPE       the tape on a fresh table of begin 128, and the requests and answer bytes of one time
- *   driver sound TABLE TIMES     the soundness check of a table
- *   driver list TABLE TIMES      its listing
- *   driver reset TIMES           emptying a table
- *   driver stack TABLE           the bytes of stack that the deepest calls on a table touch
+ *   driver run TIMES <TAPE              the tape on a fresh table of begin 128, and the requests and answer bytes of one time
+ *   driver sound TABLE TIMES            the soundness check of a table
+ *   driver list TABLE TIMES             its listing
+ *   driver reset TIMES                  emptying a table
+ *   driver conflict TABLE WHAT TIMES    a run of one conflict on a table: its soundness check, and the request
+ *   driver before TABLE WHAT TIMES      the same run without the request, to be taken off
+ *   driver stack TABLE                  the bytes of stack that the deepest calls on a table touch
  *
- * TABLE is fresh, half (128 nodes in pairs), pairs (256 nodes in pairs), tree (255 nodes, one path), wide (255 nodes, every pair
- * at the root), nested (85 blossoms, each in the next).
+ * TABLE is one of these, where N is a size and `NAME:N` another than what it has without:
+ *
+ *   fresh            no node
+ *   pairs (N 256)    N nodes in pairs; half is pairs:128
+ *   tree (N 255)     a tree of N nodes, one path
+ *   wide (N 255)     a tree of N nodes, every pair at the root
+ *   nested (N 85)    N blossoms, each in the next, every touch the deepest defect
+ *   settled (N 85)   the same, and the outermost matched to a virtual vertex
+ *
+ * WHAT is one of these, each between the last node that the table's name speaks of (a tree's last leaf, the outermost blossom, else
+ * a new node) and another:
+ *
+ *   meet     a new node
+ *   hang     a node that is paired with another, so that the two go below a tree's node
+ *   close    a tree's root, so that the way between becomes a blossom
  */
 #include <stdint.h>
 #include <stdio.h>
@@ -19,7 +34,7 @@
 
 #define MOST 65536
 
-static uint16_t table[2819];
+static uint16_t table[BOLTCLOVER_TABLE_WORDS];
 static uint8_t tape[MOST];
 static uint8_t out[MOST];
 
@@ -43,12 +58,12 @@ static void pairs(uint16_t from, uint16_t to)
 		meet(n, n + 1, n, n + 1);
 }
 
-/* 85 blossoms on 171 defects: each takes the one before it and a pair more; every touch of a blossom is defect 0 */
-static void nest(void)
+/* N blossoms on 2 N + 1 defects: each takes the one before it and a pair more; every touch of a blossom is defect 0 */
+static void nest(uint16_t n)
 {
 	uint16_t inside = 0;
-	pairs(1, 171);
-	for (uint16_t k = 0; k < 85; k++) {
+	pairs(1, 2 * n + 1);
+	for (uint16_t k = 0; k < n; k++) {
 		uint16_t minus = 1 + 2 * k, plus = 2 + 2 * k;
 		meet(inside, minus, 0, minus);
 		meet(inside, plus, 0, plus);
@@ -56,25 +71,51 @@ static void nest(void)
 	}
 }
 
+/* where the next conflict is: a node with its touch, and the first defect that the table does not name */
+static uint16_t end, end_touch, unnamed;
+
+static int is(const char *name, const char *known)
+{
+	size_t length = strlen(known);
+	return strncmp(name, known, length) == 0 && (name[length] == 0 || name[length] == ':');
+}
+
 static void build(const char *name)
 {
-	must(boltclover_make(table, strcmp(name, "nested") == 0 ? 171 : strcmp(name, "fresh") == 0 ? 128 : 256) == 0, "making is refused");
-	if (strcmp(name, "half") == 0)
-		pairs(0, 128);
-	else if (strcmp(name, "pairs") == 0)
-		pairs(0, 256);
-	else if (strcmp(name, "tree") == 0) {
-		pairs(1, 255);
-		for (uint16_t n = 0; n + 2 < 255; n += 2)
-			meet(n, n + 1, n, n + 1);
-	} else if (strcmp(name, "wide") == 0) {
-		pairs(1, 255);
-		for (uint16_t n = 0; n + 2 < 255; n += 2)
-			meet(0, n + 1, 0, n + 1);
-	} else if (strcmp(name, "nested") == 0)
-		nest();
-	else
-		must(strcmp(name, "fresh") == 0, "no such table");
+	const char *colon = strchr(name, ':');
+	int n = colon ? atoi(colon + 1) : 0;
+	if (is(name, "nested") || is(name, "settled")) {
+		n = colon ? n : 85;
+		must(n >= 0 && n <= 85, "there are 0 to 85 nested blossoms");
+		must(boltclover_make(table, 171) == 0, "making is refused");
+		nest(n);
+		end = n ? 170 + n : 0;
+		end_touch = 0;
+		unnamed = 2 * n + 1;
+		if (is(name, "settled")) {
+			size_t written;
+			must(boltclover_virtual_conflict(table, end, end_touch, 1, 2, out, MOST, &written) == 0, "the virtual conflict is refused");
+		}
+	} else if (is(name, "tree") || is(name, "wide")) {
+		n = colon ? n : 255;
+		must(n % 2 == 1 && n <= 255, "a tree has 1, 3, .. 255 nodes");
+		must(boltclover_make(table, n < 255 ? 255 : 256) == 0, "making is refused");
+		pairs(1, n);
+		for (uint16_t k = 0; k + 2 < n; k += 2) {
+			uint16_t plus = is(name, "tree") ? k : 0;
+			meet(plus, k + 1, plus, k + 1);
+		}
+		end = end_touch = n - 1;
+		unnamed = n;
+	} else {
+		n = is(name, "half") ? 128 : is(name, "pairs") && !colon ? 256 : n;
+		must(is(name, "half") || is(name, "pairs") || is(name, "fresh"), "no such table");
+		must(n % 2 == 0 && n >= 0 && n <= 256, "0, 2, .. 256 nodes are in pairs");
+		must(boltclover_make(table, is(name, "fresh") ? 128 : 256) == 0, "making is refused");
+		pairs(0, n);
+		end = end_touch = n;
+		unnamed = n + 1;
+	}
 }
 
 static void run(size_t length, unsigned times)
@@ -98,6 +139,53 @@ static void run(size_t length, unsigned times)
 		}
 	}
 	printf("requests %u answer bytes %zu\n", (unsigned)requests, bytes);
+}
+
+static uint8_t *number(uint8_t *at, uint32_t n, int bytes)
+{
+	for (int i = 0; i < bytes; i++, n >>= 8)
+		*at++ = n & 255;
+	return at;
+}
+
+/* the record of a conflict, onto the tape */
+static size_t request(uint16_t node_2, uint16_t touch_2)
+{
+	uint8_t *at = tape;
+	at = number(at, 18, 2);
+	at = number(at, 1, 2);
+	at = number(at, end, 2);
+	at = number(at, node_2, 2);
+	at = number(at, end_touch, 2);
+	at = number(at, touch_2, 2);
+	at = number(at, 1, 4);
+	at = number(at, 2, 4);
+	return at - tape;
+}
+
+static void conflict(const char *what, unsigned times, int requested)
+{
+	static uint16_t before[BOLTCLOVER_TABLE_WORDS];
+	size_t length = 0;
+	if (strcmp(what, "meet") == 0)
+		length = request(unnamed, unnamed);
+	else if (strcmp(what, "hang") == 0) {
+		pairs(unnamed, unnamed + 2);
+		length = request(unnamed, unnamed);
+	} else if (strcmp(what, "close") == 0)
+		length = request(0, 0);
+	must(length > 0, "a conflict is meet, hang or close");
+	if (!requested)
+		length = 0;
+	memcpy(before, table, sizeof table);
+	for (unsigned i = 0; i < times; i++) {
+		uint16_t stop;
+		uint32_t handled;
+		size_t written, unread;
+		memcpy(table, before, sizeof table);
+		must(boltclover_run(table, tape, length, out, MOST, MOST, &stop, &handled, &written, &unread) == 0, "the run is refused");
+		must(unread == 0 && (length == 0 || written > 6), "the conflict is refused");
+	}
 }
 
 /* A call on a stack of its own, painted before and looked at afterwards: what is no longer painted was touched. */
@@ -149,15 +237,15 @@ static void measure(const char *name)
 	build(name);
 	own = touched(nothing);
 	printf("soundness check %zu\n", touched(check) - own);
-	if (strcmp(name, "tree") == 0 || strcmp(name, "wide") == 0) {
-		node = touch = 254;
+	if (is(name, "tree") || is(name, "wide")) {
+		node = touch = end;
 		printf("virtual conflict at the last node %zu\n", touched(match) - own);
 		build(name);
 		node = touch = 0;
 		printf("virtual conflict at the root %zu\n", touched(match) - own);
-	} else if (strcmp(name, "nested") == 0) {
-		node = 255;
-		touch = 0;
+	} else if (is(name, "nested")) {
+		node = end;
+		touch = end_touch;
 		printf("virtual conflict at the outermost blossom %zu\n", touched(match) - own);
 	}
 	printf("listing afterwards %zu\n", touched(list) - own);
@@ -165,7 +253,7 @@ static void measure(const char *name)
 
 int main(int argc, char **argv)
 {
-	must(argc >= 3, "run TIMES | sound TABLE TIMES | list TABLE TIMES | reset TIMES | stack TABLE");
+	must(argc >= 3, "run TIMES | sound TABLE TIMES | list TABLE TIMES | reset TIMES | conflict TABLE WHAT TIMES | before TABLE WHAT TIMES | stack TABLE");
 	if (strcmp(argv[1], "run") == 0) {
 		run(fread(tape, 1, MOST, stdin), atoi(argv[2]));
 	} else if (strcmp(argv[1], "reset") == 0) {
@@ -174,6 +262,10 @@ int main(int argc, char **argv)
 			must(boltclover_reset(table) == 0, "reset is refused");
 	} else if (strcmp(argv[1], "stack") == 0) {
 		measure(argv[2]);
+	} else if (strcmp(argv[1], "conflict") == 0 || strcmp(argv[1], "before") == 0) {
+		must(argc == 5, "a table, a kind of conflict and a number");
+		build(argv[2]);
+		conflict(argv[3], atoi(argv[4]), strcmp(argv[1], "conflict") == 0);
 	} else {
 		size_t written = 0;
 		must(argc == 4, "a table and a number");

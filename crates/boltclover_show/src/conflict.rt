@@ -6,6 +6,8 @@ use crate::reason::of_nodes;
 use crate::reason::of_numbers;
 use crate::reason::unknown;
 use record::Conflict;
+use request_judging::nodes;
+use request_judging::states;
 use table::Table;
 use text::reasons;
 
@@ -13,10 +15,10 @@ fn no_node_or_vertex(t: &Table, c: Conflict) -> Reason {
     let node_1 = c.node_1;
     let node_2 = c.node_2;
     let vertex_1 = c.vertex_1;
-    if request_judging::nodes::is_no_node(t, node_1) {
+    if states::is_no_node(nodes::seen_state(t, node_1)) {
         return node::no_node(node_1);
     }
-    if request_judging::nodes::is_no_node(t, node_2) {
+    if states::is_no_node(nodes::seen_state(t, node_2)) {
         return node::no_node(node_2);
     }
     if node::is_none(vertex_1) {
@@ -28,7 +30,7 @@ fn no_node_or_vertex(t: &Table, c: Conflict) -> Reason {
 fn not_outer(t: &Table, c: Conflict) -> Reason {
     let node_1 = c.node_1;
     let node_2 = c.node_2;
-    if request_judging::nodes::is_not_outer(t, node_1) {
+    if states::is_not_outer(nodes::seen_state(t, node_1)) {
         return node::not_outer(t, node_1);
     }
     node::not_outer(t, node_2)
@@ -39,7 +41,7 @@ fn touch(t: &Table, c: Conflict) -> Reason {
     let node_2 = c.node_2;
     let touch_1 = c.touch_1;
     let touch_2 = c.touch_2;
-    if request_judging::nodes::is_outside(t, node_1, touch_1) {
+    if nodes::touches_elsewhere(t, node_1, touch_1) {
         return node::touch(t, node_1, touch_1);
     }
     node::touch(t, node_2, touch_2)
@@ -48,10 +50,10 @@ fn touch(t: &Table, c: Conflict) -> Reason {
 fn not_growing(t: &Table, c: Conflict) -> Reason {
     let node_1 = c.node_1;
     let node_2 = c.node_2;
-    if request_judging::nodes::is_minus(t, node_1) {
+    if states::is_minus(nodes::seen_state(t, node_1)) {
         return of_node(reasons::SHRINKS, node_1);
     }
-    if request_judging::nodes::is_minus(t, node_2) {
+    if states::is_minus(nodes::seen_state(t, node_2)) {
         return of_node(reasons::SHRINKS, node_2);
     }
     of_nodes(reasons::BOTH_STAY, node_1, node_2)

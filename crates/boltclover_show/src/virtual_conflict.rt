@@ -4,6 +4,8 @@ use crate::reason::Reason;
 use crate::reason::of_node;
 use crate::reason::unknown;
 use record::VirtualConflict;
+use request_judging::nodes;
+use request_judging::states;
 use slot::Node;
 use table::Table;
 use text::reasons;
@@ -11,7 +13,7 @@ use text::reasons;
 fn no_node_or_vertex(t: &Table, c: VirtualConflict) -> Reason {
     let node = c.node;
     let vertex = c.vertex;
-    if request_judging::nodes::is_no_node(t, node) {
+    if states::is_no_node(nodes::seen_state(t, node)) {
         return node::no_node(node);
     }
     if node::is_none(vertex) {
@@ -21,7 +23,7 @@ fn no_node_or_vertex(t: &Table, c: VirtualConflict) -> Reason {
 }
 
 fn not_growing(t: &Table, node: Node) -> Reason {
-    if request_judging::nodes::is_minus(t, node) {
+    if states::is_minus(nodes::seen_state(t, node)) {
         return of_node(reasons::SHRINKS, node);
     }
     of_node(reasons::STAYS, node)

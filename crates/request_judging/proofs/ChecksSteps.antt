@@ -1,5 +1,5 @@
 -- The checks, in the code's order.
-use mathlib.Core.Path.{_≡_, _∙_}
+use mathlib.Core.Path.{_≡_}
 use mathlib.Core.Bool.{Bool, true, false, not, _||_}
 use Prim.Native.Nat.{ℕ}
 use lib.Dec.{eqb}
@@ -9,24 +9,31 @@ use Rattle.slot.specs.Slot.{Slot}
 use Rattle.table.specs.Table.{Table, at}
 use Rattle.table.specs.Nodes.{isBlossom, present}
 use Rattle.table.specs.Place.{inTree}
-use Rattle.record.specs.declared.request.Conflict.{Conflict}
 use Rattle.rules.specs.Trees.{seen, sameTree}
-use Rattle.rules.specs.Blossom.{lacksBlossomSlot}
-use Rattle.rules.specs.Refusals.{makesBlossom, conflictLacksSlot}
+use Rattle.rules.specs.Refusals.{makesBlossom}
 
--- ---- tests put together by `either`, in the code's order
+-- ---- tests tried one after the other, in the code's order
 
-pub either-of-two : (a b r x y : Bool) → a ≡ x → b ≡ y → r ≡ (a || b) → r ≡ (x || y)
-either-of-two a b r x y e f g = g ∙ rw (e, f)
+pub first-applies : (a b : Bool) → a ≡ true → true ≡ (a || b)
+first-applies a b e = rw e
 
-pub either-of-three : (a b c p r x y z : Bool) → a ≡ x → b ≡ y → p ≡ (a || b) → c ≡ z → r ≡ (p || c) → r ≡ (x || y || z)
-either-of-three a b c p r x y z e f g h i = i ∙ rw (g, e, f, h)
+pub second-decides : (a b r : Bool) → a ≡ false → r ≡ b → r ≡ (a || b)
+second-decides a b r e f = rw e f
 
-pub either-of-four : (a b c d p q r w x y z : Bool) → a ≡ w → b ≡ x → p ≡ (a || b) → c ≡ y → q ≡ (p || c) → d ≡ z → r ≡ (q || d) → r ≡ (w || x || y || z)
-either-of-four a b c d p q r w x y z e f g h i j k = k ∙ rw (i, g, e, f, h, j)
+-- 7: one is −, or none is growing
+module _ (a b : Bool) where
+  pub first-minus : (n : Bool) → a ≡ true → true ≡ (a || b || n)
+  first-minus n e = rw e
 
-pub minus-or-none-growing : (a b c d p q r w x y z : Bool) → a ≡ w → b ≡ x → p ≡ (a || b) → c ≡ y → d ≡ z → q ≡ (c || d) → r ≡ (p || not q) → r ≡ (w || x || not (y || z))
-minus-or-none-growing a b c d p q r w x y z e f g h i j k = k ∙ rw (g, e, f, j, h, i)
+  pub second-minus : (n : Bool) → a ≡ false → b ≡ true → true ≡ (a || b || n)
+  second-minus n e f = rw (e, f)
+
+  module _ (c d : Bool) where
+    pub first-growing : a ≡ false → b ≡ false → c ≡ true → false ≡ (a || b || not (c || d))
+    first-growing e f g = rw (e, f, g)
+
+    pub second-growing : (s : Bool) → a ≡ false → b ≡ false → c ≡ false → s ≡ d → not s ≡ (a || b || not (c || d))
+    second-growing s e f g h = rw (e, f, g, h)
 
 -- ---- trees
 
@@ -55,12 +62,3 @@ module _ (t : Table) (n : ℕ) where
 
     pub makes-by-root : (r : Bool) → inTree (seen t n) ≡ true → inTree (seen t y) ≡ true → r ≡ sameTree t n y → r ≡ makesBlossom t n y
     makes-by-root r p q e = rw (p, q) e
-
--- ---- a conflict that makes a blossom
-
-module _ (t : Table) (c : Conflict) where
-  pub lacks-no-making : makesBlossom t (c .«node_1» .0) (c .«node_2» .0) ≡ false → false ≡ conflictLacksSlot t c
-  lacks-no-making p = rw p
-
-  pub lacks-making : (r : Bool) → makesBlossom t (c .«node_1» .0) (c .«node_2» .0) ≡ true → r ≡ lacksBlossomSlot t → r ≡ conflictLacksSlot t c
-  lacks-making r p e = rw p e

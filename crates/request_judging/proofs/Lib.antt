@@ -1,4 +1,5 @@
 pub mod NodesSteps
+pub mod SeenLaws
 pub mod ChecksSteps
 pub mod JudgingSteps
 pub mod TreesSteps

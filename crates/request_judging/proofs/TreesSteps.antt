@@ -1,6 +1,6 @@
 -- Each climb, one step at a time, as the code's loops take it.
 use mathlib.Core.Path.{_≡_, refl, _∙_}
-use mathlib.Core.Bool.{false}
+use mathlib.Core.Bool.{Bool, false, _&&_}
 use Prim.Native.Nat.{ℕ, zero, suc, _-_, _+_, _<_, _≤_}
 use native.Mathlib.Omega.{arith}
 use lib.Dec.{eqb}
@@ -9,9 +9,23 @@ use Rattle.lists.proofs.Budget.{fewer}
 use Rattle.slot.specs.Number.{none}
 use Rattle.table.specs.Table.{Table}
 use Rattle.rules.specs.Act.{choose}
-use Rattle.rules.specs.Slots.{up}
+use Rattle.rules.specs.Slots.{up, isSome}
 use Rattle.rules.specs.Trees.{rootWithin, sameTree, root}
 use Rattle.request_judging.specs.Meeting.{depthWithin, depth, meetWithin, stepsTogether, meetByDepths}
+
+-- a step more passed is a step less left
+one-less : (c : ℕ) → 256 - (c + 1) ≡ 256 - c - 1
+one-less c = omega arith
+
+pub none-left : (c : ℕ) → c ≡ 256 → 256 - c ≡ 0
+none-left c e = omega arith
+
+-- what is counted already and what is left
+pub all-passed : (c d e : ℕ) → d ≡ 0 → c + d ≡ 0 + e → c ≡ e
+all-passed c d e p q = omega arith
+
+pub one-passed : (c d d′ e : ℕ) → d′ + 1 ≡ d → c + d ≡ e → c + 1 + d′ ≡ e
+one-passed c d d′ e p q = omega arith
 
 module _ (t : Table) (n p : ℕ) (e : p ≡ up t n) where
   pub root-there : (k : ℕ) → p ≡ none → n ≡ rootWithin k t n
@@ -38,23 +52,32 @@ module _ (t : Table) (n p : ℕ) (e : p ≡ up t n) where
   depth-more zero q h = absurd (q refl)
   depth-more (suc k) q h = rw (fewer k, e, ne-eqb (up t n) none (λ u. h (e ∙ u)))
 
+  -- one step on, where the steps passed are counted
+  pub root-on : (c : ℕ) → c ≤ 256 → (p ≡ none → ⊥) → (c ≡ 256 → ⊥) → rootWithin (256 - (c + 1)) t p ≡ rootWithin (256 - c) t n
+  root-on c b h q = rw (one-less c) (root-more (256 - c) h (λ z. q (omega arith)))
+
+  pub depth-on :
+      (c d : ℕ)
+      → c ≤ 256
+      → (p ≡ none → ⊥)
+      → (c ≡ 256 → ⊥)
+      → c + depthWithin (256 - c) t n ≡ d
+      → c + 1 + depthWithin (256 - (c + 1)) t p ≡ d
+  depth-on c d b h q s = rw (one-less c) (one-passed c _ _ d (depth-more (256 - c) (λ z. q (omega arith)) h) s)
+
 pub depth-spent : (t : Table) (n k : ℕ) → k ≡ 0 → depthWithin k t n ≡ 0
 unfolding depthWithin
 depth-spent t n k q = rw q
 
--- what is counted already and what is left
-pub all-passed : (c d e : ℕ) → d ≡ 0 → c + d ≡ 0 + e → c ≡ e
-all-passed c d e p q = omega arith
+-- one root, if there is one
+pub no-root : (x y : ℕ) → x ≡ none → false ≡ (isSome x && eqb x y)
+no-root x y q = rw (eq-eqb x none q)
 
-pub one-passed : (c d d′ e : ℕ) → d′ + 1 ≡ d → c + d ≡ e → c + 1 + d′ ≡ e
-one-passed c d d′ e p q = omega arith
+pub two-roots : (x y : ℕ) → (x ≡ none → ⊥) → eqb x y ≡ (isSome x && eqb x y)
+two-roots x y h = rw (ne-eqb x none h)
 
-module _ (t : Table) (a b x y : ℕ) (e : x ≡ root t a) (f : y ≡ root t b) where
-  pub no-root : x ≡ none → false ≡ sameTree t a b
-  no-root q = rw (← e, eq-eqb x none q)
-
-  pub two-roots : (x ≡ none → ⊥) → eqb x y ≡ sameTree t a b
-  two-roots h = rw (← e, ← f, ne-eqb x none h)
+pub by-ways : (t : Table) (a b x y : ℕ) (r : Bool) → x ≡ root t a → y ≡ root t b → r ≡ (isSome x && eqb x y) → r ≡ sameTree t a b
+by-ways t a b x y r e f g = rw (← e, ← f) g
 
 module _ (t : Table) (d a e b : ℕ) where
   pub meet-spent : (k : ℕ) → k ≡ 0 → a ≡ meetWithin k d a e b t

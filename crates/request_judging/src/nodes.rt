@@ -1,110 +1,45 @@
-// The checks of one named node (01, "Numbers given back"). Each reads an empty defect slot as the node that it would become.
+// What the checks ask of one named node (01, "Numbers given back").
 use slot::Node;
 use slot::State;
 use table::Table;
 use table::climb;
 use table::field;
 ghost use mathlib.Core.Path.{_≡_};
-ghost use mathlib.Core.Bool.{_||_};
 ghost use Rattle.table.specs.Words.{tableOf};
-ghost use Rattle.rules.specs.Trees.{seen};
-ghost use Rattle.rules.specs.Refusals.{isNoNode, isNotOuter, isOutside, isMinusNode, isGrowing, isNotExpandable};
+ghost use Rattle.rules.specs.Refusals.{isNotExpandable};
+ghost use Rattle.request_judging.specs.Seen.{seenState, elsewhere};
 
-pub fn either(a: bool, b: bool) -> bool
-    ensures { λ r. ⌜ r ≡ (a || b) ⌝ }
+// The state of a node as the checks read it: an empty defect slot as the node that it would become, no slot as an empty one. The slot is
+// looked for first, so that whatever asks for it later is known to find it.
+pub fn seen_state(t: &Table, n: Node) -> State
+    ensures { λ r. ⌜ r ≡ seenState (tableOf (now (t .entry))) (n .0) ⌝ }
 {
-    if a { true } else { b }
-}
-
-// The state of a node as the checks read it.
-fn seen_state(t: &Table, n: Node) -> State
-    ensures { λ r. ⌜ r ≡ seen (tableOf (now (t .entry))) (n .0) .state ⌝ }
-{
+    if 256 <= n.0 {
+        return State::Empty;
+    }
     let state = field::state(t, n);
     if field::is_blossom(t, n) {
         return state;
     }
-    match state {
-        State::Empty => State::Grow,
-        State::Inner => State::Inner,
-        State::Stay => State::Stay,
-        State::Grow => State::Grow,
-        State::Shrink => State::Shrink,
-        State::Damaged => State::Damaged,
+    if field::has_node(t, n) {
+        return state;
     }
+    State::Grow
 }
 
-// 3: no slot, or an empty blossom slot.
-pub fn is_no_node(t: &Table, n: Node) -> bool
-    ensures { λ r. ⌜ r ≡ isNoNode (tableOf (now (t .entry))) (n .0) ⌝ }
-{
-    if 256 <= n.0 {
-        return true;
-    }
-    let state = seen_state(t, n);
-    match state {
-        State::Empty => true,
-        State::Inner => false,
-        State::Stay => false,
-        State::Grow => false,
-        State::Shrink => false,
-        State::Damaged => false,
-    }
-}
-
-// 4.
-pub fn is_not_outer(t: &Table, n: Node) -> bool
-    ensures { λ r. ⌜ r ≡ isNotOuter (tableOf (now (t .entry))) (n .0) ⌝ }
-{
-    let state = seen_state(t, n);
-    match state {
-        State::Empty => true,
-        State::Inner => true,
-        State::Stay => false,
-        State::Grow => false,
-        State::Shrink => false,
-        State::Damaged => true,
-    }
-}
-
-// 6: the touch must be a defect inside its node.
-pub fn is_outside(t: &Table, n: Node, touch: Node) -> bool
-    ensures { λ r. ⌜ r ≡ isOutside (tableOf (now (t .entry))) (n .0) (touch .0) ⌝ }
+// 6 of an outer node: the touch must be a defect, and this the outer node that it is inside.
+pub fn touches_elsewhere(t: &Table, n: Node, touch: Node) -> bool
+    ensures { λ r. ⌜ r ≡ elsewhere (tableOf (now (t .entry))) (n .0) (touch .0) ⌝ }
 {
     let begin = table::counts::begin(t);
     if begin <= touch.0 {
         return true;
     }
-    !climb::is_inside(t, n, touch)
-}
-
-// 7: a − node; a growing one.
-pub fn is_minus(t: &Table, n: Node) -> bool
-    ensures { λ r. ⌜ r ≡ isMinusNode (tableOf (now (t .entry))) (n .0) ⌝ }
-{
-    let state = seen_state(t, n);
-    match state {
-        State::Empty => false,
-        State::Inner => false,
-        State::Stay => false,
-        State::Grow => false,
-        State::Shrink => true,
-        State::Damaged => false,
+    if touch.0 == n.0 {
+        return false;
     }
-}
-
-pub fn is_growing(t: &Table, n: Node) -> bool
-    ensures { λ r. ⌜ r ≡ isGrowing (tableOf (now (t .entry))) (n .0) ⌝ }
-{
-    let state = seen_state(t, n);
-    match state {
-        State::Empty => false,
-        State::Inner => false,
-        State::Stay => false,
-        State::Grow => true,
-        State::Shrink => false,
-        State::Damaged => false,
-    }
+    let outer = climb::get_outer_blossom(t, touch);
+    outer.0 != n.0
 }
 
 // 11: only a − blossom is taken apart.

@@ -2,7 +2,8 @@
 use mathlib.Core.Path.{_≡_, refl, sym, _∙_}
 use mathlib.Core.Bool.{true, false}
 use mathlib.Core.List.{[], _∷_}
-use Prim.Native.Nat.{ℕ, zero, suc, _-_}
+use Prim.Native.Nat.{ℕ, zero, suc, _-_, _*_, _<_, _≤_}
+use native.Mathlib.Omega.{arith}
 use borrow.Author.Tests.{eq-eqb, ne-eqb}
 use Rattle.lists.proofs.Budget.{fewer}
 use Rattle.slot.specs.Slot.{Link}
@@ -128,3 +129,10 @@ module _ (t : Table) (o : Out) where
       let p′ = rw (fewer k, e, m) at p in
       let q′ = rw (fewer k, a, e) at q in
       q′ ∙ rw (p′, ne-eqb n touched d, writeAll-append)
+
+pub ring-falls : (l s n : ℕ) → 2 * l ≡ n → s ≤ l → (s ≡ 0 → ⊥) → 2 * (s - 1) < n
+ring-falls l zero n e p h = absurd (h refl)
+ring-falls l (suc s) n e p h = omega arith
+
+pub less-still : (s l : ℕ) → s ≤ l → s - 1 ≤ l
+less-still s l p = omega arith

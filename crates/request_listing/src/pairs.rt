@@ -72,34 +72,45 @@ pub fn list_inside(
 fn list_levels(t: &Table, out: &mut [u8], pos: usize, b: Node, touched: Node, left: usize) -> usize
     ensures { λ r. ⌜ outOf (now (out .exit)) r ≡ writeAll (outOf (now (out .entry)) pos) (levelsListed left (b .0) (touched .0) (tableOf (now (t .entry)))) ⌝ }
 {
-    if left == 0 {
-        return pos;
+    let mut here = touched;
+    let mut end = pos;
+    let mut still = left;
+    loop {
+        if still == 0 {
+            return end;
+        }
+        if field::is_outer(t, here) {
+            return end;
+        }
+        let first = field::sibling(t, here);
+        end = list_ring(t, out, end, here, first, still - 1);
+        let above = field::parent(t, here);
+        if above.0 == b.0 {
+            return end;
+        }
+        here = above;
+        still -= 1;
     }
-    if field::is_outer(t, touched) {
-        return pos;
-    }
-    let first = field::sibling(t, touched);
-    let p = list_ring(t, out, pos, touched, first, left - 1);
-    let above = field::parent(t, touched);
-    if above.0 == b.0 {
-        return p;
-    }
-    list_levels(t, out, p, b, above, left - 1)
 }
 
 // The ring rule: the nodes from n on up to the touched one, two by two, each two by the pair rule.
 fn list_ring(t: &Table, out: &mut [u8], pos: usize, touched: Node, n: Node, left: usize) -> usize
     ensures { λ r. ⌜ outOf (now (out .exit)) r ≡ writeAll (outOf (now (out .entry)) pos) (ringListed left (touched .0) (n .0) (tableOf (now (t .entry)))) ⌝ }
 {
-    if left == 0 {
-        return pos;
+    let mut here = n;
+    let mut end = pos;
+    let mut still = left;
+    loop {
+        if still == 0 {
+            return end;
+        }
+        if here.0 == touched.0 {
+            return end;
+        }
+        let peer = field::sibling(t, here);
+        let link = field::link(t, here);
+        end = list_pair(t, out, end, here, peer, link, still - 1);
+        here = field::sibling(t, peer);
+        still -= 1;
     }
-    if n.0 == touched.0 {
-        return pos;
-    }
-    let peer = field::sibling(t, n);
-    let link = field::link(t, n);
-    let p = list_pair(t, out, pos, n, peer, link, left - 1);
-    let after = field::sibling(t, peer);
-    list_ring(t, out, p, touched, after, left - 1)
 }

@@ -1,9 +1,10 @@
-// A slot read, one or more of its fields replaced, and the slot stored again. Past the table nothing changes.
+// A slot with one or more of its fields replaced. Past the table nothing changes.
 use slot::Link;
 use slot::Node;
 use slot::Slot;
 use slot::State;
 use table::Table;
+use table::storing;
 ghost use mathlib.Core.Path.{_≡_};
 ghost use Rattle.slot.specs.Slot.{linkOf};
 ghost use Rattle.table.specs.Words.{tableOf};
@@ -13,93 +14,27 @@ ghost use Rattle.rules.specs.Slots.{withParent, withFirstChild, withSibling, sh
 pub fn set_parent(t: &mut Table, n: Node, parent: Node)
     ensures { λ _. ⌜ tableOf (now (t .exit)) ≡ alter (n .0) (withParent (parent .0)) (tableOf (now (t .entry))) ⌝ }
 {
-    let s = table::get(t, n);
-    let state = s.state;
-    let first_child = s.first_child;
-    let sibling = s.sibling;
-    let ring = s.ring;
-    let link = s.link;
-    table::storing::store(
-        t,
-        n,
-        Slot {
-            state,
-            parent,
-            first_child,
-            sibling,
-            ring,
-            link,
-        },
-    );
+    storing::store_parent(t, n, parent);
 }
 
 pub fn set_first_child(t: &mut Table, n: Node, first_child: Node)
     ensures { λ _. ⌜ tableOf (now (t .exit)) ≡ alter (n .0) (withFirstChild («first_child» .0)) (tableOf (now (t .entry))) ⌝ }
 {
-    let s = table::get(t, n);
-    let state = s.state;
-    let parent = s.parent;
-    let sibling = s.sibling;
-    let ring = s.ring;
-    let link = s.link;
-    table::storing::store(
-        t,
-        n,
-        Slot {
-            state,
-            parent,
-            first_child,
-            sibling,
-            ring,
-            link,
-        },
-    );
+    storing::store_first_child(t, n, first_child);
 }
 
 pub fn set_sibling(t: &mut Table, n: Node, sibling: Node)
     ensures { λ _. ⌜ tableOf (now (t .exit)) ≡ alter (n .0) (withSibling (sibling .0)) (tableOf (now (t .entry))) ⌝ }
 {
-    let s = table::get(t, n);
-    let state = s.state;
-    let parent = s.parent;
-    let first_child = s.first_child;
-    let ring = s.ring;
-    let link = s.link;
-    table::storing::store(
-        t,
-        n,
-        Slot {
-            state,
-            parent,
-            first_child,
-            sibling,
-            ring,
-            link,
-        },
-    );
+    storing::store_sibling(t, n, sibling);
 }
 
 // The place in a child list: whose child n is, and which child is next.
 pub fn set_list_place(t: &mut Table, n: Node, parent: Node, sibling: Node)
     ensures { λ _. ⌜ tableOf (now (t .exit)) ≡ alter (n .0) (λ s. withSibling (sibling .0) (withParent (parent .0) s)) (tableOf (now (t .entry))) ⌝ }
 {
-    let s = table::get(t, n);
-    let state = s.state;
-    let first_child = s.first_child;
-    let ring = s.ring;
-    let link = s.link;
-    table::storing::store(
-        t,
-        n,
-        Slot {
-            state,
-            parent,
-            first_child,
-            sibling,
-            ring,
-            link,
-        },
-    );
+    storing::store_parent(t, n, parent);
+    storing::store_sibling(t, n, sibling);
 }
 
 // All but the first blossom child, which no rule but making and taking apart a blossom changes.
@@ -115,7 +50,7 @@ pub fn shape(
     ensures { λ _. ⌜ tableOf (now (t .exit)) ≡ alter (n .0) (shaped state (parent .0) («first_child» .0) (sibling .0) (linkOf link)) (tableOf (now (t .entry))) ⌝ }
 {
     let ring = table::get(t, n).ring;
-    table::storing::store(
+    storing::store(
         t,
         n,
         Slot {

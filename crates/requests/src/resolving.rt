@@ -1,5 +1,6 @@
 // What an accepted conflict does (01, "What a conflict does"): the rows of the conflict table.
 use record::Conflict;
+use request_judging::trees;
 use slot::Link;
 use slot::Node;
 use table::Place;
@@ -14,16 +15,25 @@ ghost use Rattle.rules.specs.Act.{worldOf, run};
 ghost use Rattle.rules.specs.Conflict.{treesMeet, rowOf, resolved, conflict};
 ghost use Rattle.requests.specs.ByDepths.{blossomByDepths};
 
-// A blossom of two nodes of one tree, in the next free slot.
-fn blossom_in_tree(t: &mut Table, out: &mut [u8], pos: usize, x: Node, y: Node, link: Link) -> usize
-    ensures { λ r. ⌜ worldOf (now (t .exit)) (now (out .exit)) r ≡ run (worldOf (now (t .entry)) (now (out .entry)) pos) (blossomByDepths (x .0) (y .0) (linkOf link)) ⌝ }
+// A blossom of two nodes of one tree, which stand at these depths, in the next free slot.
+fn blossom_in_tree(
+    t: &mut Table,
+    out: &mut [u8],
+    pos: usize,
+    x: Node,
+    y: Node,
+    link: Link,
+    depth_x: usize,
+    depth_y: usize,
+) -> usize
+    ensures { λ r. ⌜ worldOf (now (t .exit)) (now (out .exit)) r ≡ run (worldOf (now (t .entry)) (now (out .entry)) pos) (blossomByDepths «depth_x» «depth_y» (x .0) (y .0) (linkOf link)) ⌝ }
 {
     let next = table::counts::blossom_end(t);
     if next == 256 {
         return pos;
     }
     let given = table::counts::count_blossoms(t) + 1;
-    let meeting = request_judging::trees::find_lowest_common_ancestor(t, x, y);
+    let meeting = trees::find_lowest_common_ancestor(t, x, y, depth_x, depth_y);
     request_blossom::create_blossom(t, out, pos, Node(next), given, meeting, x, y, link)
 }
 
@@ -31,8 +41,12 @@ fn blossom_in_tree(t: &mut Table, out: &mut [u8], pos: usize, x: Node, y: Node, 
 fn trees_meet(t: &mut Table, out: &mut [u8], pos: usize, x: Node, y: Node, link: Link) -> usize
     ensures { λ r. ⌜ worldOf (now (t .exit)) (now (out .exit)) r ≡ run (worldOf (now (t .entry)) (now (out .entry)) pos) (treesMeet (x .0) (y .0) (linkOf link)) ⌝ }
 {
-    if request_judging::trees::same_tree(t, x, y) {
-        return blossom_in_tree(t, out, pos, x, y, link);
+    let above_x = trees::way_up(t, x);
+    let above_y = trees::way_up(t, y);
+    let root_x = above_x.root;
+    let root_y = above_y.root;
+    if trees::one_root(root_x, root_y) {
+        return blossom_in_tree(t, out, pos, x, y, link, above_x.depth, above_y.depth);
     }
     let p = request_matching::augment_whole_tree(t, out, pos, x);
     let q = request_matching::augment_whole_tree(t, out, p, y);

@@ -9,6 +9,11 @@ use Rattle.table.specs.Table.{Table, at}
 use Rattle.table.specs.Nodes.{inner}
 use Rattle.table.specs.Climb.{insideWithin, outerBlossomWithin, secondOuterWithin}
 
+-- a budget that is not used up
+pub some-left : (k : ℕ) → (k ≡ 0 → ⊥) → 0 < k
+some-left zero h = absurd (h refl)
+some-left (suc k) h = omega arith
+
 module _ (t : Table) (x n : ℕ) where
   pub inside-here : (k : ℕ) → n ≡ x → insideWithin k t x n ≡ true
   unfolding insideWithin

@@ -1,4 +1,5 @@
 pub mod WordsOfSlots
+pub mod WordsOfFields
 pub mod TableLaws
 pub mod Determined
 pub mod WordsOfCounts

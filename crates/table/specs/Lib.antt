@@ -1,4 +1,5 @@
 pub mod Table
+pub mod Fields
 pub mod Layout
 pub mod Words
 pub mod Counts

@@ -27,19 +27,22 @@ pub fn is_inside(t: &Table, x: Node, n: Node) -> bool
     }
 }
 
+// What is left is asked at the end of a step: the compiler then takes two steps for one such question.
 pub fn get_outer_blossom(t: &Table, n: Node) -> Node
     ensures { λ r. ⌜ r .0 ≡ outerBlossom (tableOf (now (t .entry))) (n .0) ⌝ }
 {
     let mut here = n;
     let mut left: usize = 256;
-    while 0 < left {
+    loop {
         if !field::is_inner(t, here) {
             return here;
         }
         here = field::parent(t, here);
         left -= 1;
+        if left == 0 {
+            return here;
+        }
     }
-    here
 }
 
 pub fn get_second_outer_blossom(t: &Table, n: Node) -> Node

@@ -6,6 +6,12 @@ pub const SLOTS: usize = 256;
 // Mark, parent, first child, sibling, first blossom child, and the link.
 pub const SLOT_WORDS: usize = 11;
 
+pub const PARENT: usize = 1;
+
+pub const FIRST_CHILD: usize = 2;
+
+pub const SIBLING: usize = 3;
+
 // Where the link begins in its slot: touch, peer touch, through, peer through; a through has two words.
 pub const LINK: usize = 5;
 

@@ -1,4 +1,4 @@
-// A slot stored in the words that the caller lends. `store` is total: past the last slot there is nothing to change.
+// A slot, or one of its pointers, stored in the words that the caller lends. All are total: past the last slot there is nothing to change.
 use crate::Table;
 use crate::layout;
 use slot::Link;
@@ -9,7 +9,8 @@ ghost use Prim.Native.Nat.{_+_, _≤_};
 ghost use lib.ListN.{length};
 ghost use Rattle.lists.specs.Stores.{stores};
 ghost use Rattle.slot.specs.Slot.{slotOf, linkOf};
-ghost use Rattle.table.specs.Table.{put};
+ghost use Rattle.table.specs.Table.{at, put};
+ghost use Rattle.table.specs.Fields.{parentReplaced, firstChildReplaced, siblingReplaced};
 ghost use Rattle.table.specs.Words.{slotWords, linkWords, tableOf};
 
 // A link's six words, from b on.
@@ -49,5 +50,36 @@ pub fn store(t: &mut Table, n: Node, s: Slot)
     let i = n.0 as usize;
     if i < layout::SLOTS {
         write_slot(t, i * layout::SLOT_WORDS, s);
+    }
+}
+
+// One pointer of slot n set, and none of its other words touched; past the table, nothing.
+pub fn store_parent(t: &mut Table, n: Node, parent: Node)
+    ensures { λ _. ⌜ tableOf (now (t .exit)) ≡ put (tableOf (now (t .entry))) (n .0) (parentReplaced (parent .0) (at (tableOf (now (t .entry))) (n .0))) ⌝ }
+{
+    let words: &mut [u16] = t;
+    let i = n.0 as usize;
+    if i < layout::SLOTS {
+        words[i * layout::SLOT_WORDS + layout::PARENT] = parent.0;
+    }
+}
+
+pub fn store_first_child(t: &mut Table, n: Node, first_child: Node)
+    ensures { λ _. ⌜ tableOf (now (t .exit)) ≡ put (tableOf (now (t .entry))) (n .0) (firstChildReplaced («first_child» .0) (at (tableOf (now (t .entry))) (n .0))) ⌝ }
+{
+    let words: &mut [u16] = t;
+    let i = n.0 as usize;
+    if i < layout::SLOTS {
+        words[i * layout::SLOT_WORDS + layout::FIRST_CHILD] = first_child.0;
+    }
+}
+
+pub fn store_sibling(t: &mut Table, n: Node, sibling: Node)
+    ensures { λ _. ⌜ tableOf (now (t .exit)) ≡ put (tableOf (now (t .entry))) (n .0) (siblingReplaced (sibling .0) (at (tableOf (now (t .entry))) (n .0))) ⌝ }
+{
+    let words: &mut [u16] = t;
+    let i = n.0 as usize;
+    if i < layout::SLOTS {
+        words[i * layout::SLOT_WORDS + layout::SIBLING] = sibling.0;
     }
 }

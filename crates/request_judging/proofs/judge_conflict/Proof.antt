@@ -1,5 +1,6 @@
-use Rattle.request_judging.proofs.JudgingSteps.{conflict-opened, given, passed}
-use borrow.Author.Tests.{eq-eqb, ne-eqb}
+use Rattle.request_judging.proofs.JudgingSteps.{given, passed, conflict-judged, slot-left, slot-lacking, none-to-make}
+use borrow.Author.Tests.{eq-eqb, ne-eqb, not-true, not-false}
+use Rattle.table.specs.Words.{tableOf}
 use mathlib.Core.Path.{refl, sym, _∙_}
 use borrow.Author.Needs.{needs}
 use Rattle.request_judging.proofs.judge_conflict.Statement.{statement}
@@ -10,14 +11,24 @@ judge-conflict-spec =
     tie.close
     (tie.spec
     (λ c κs. search needs)
-    (λ c. rw conflict-opened (given _ _ _ (sym (c .before .conflict-names-no-node .ensures) ∙ (c .if1 .taken))))
     (λ c κs. search needs)
-    (λ c. rw conflict-opened (passed _ _ _ _ (sym (c .before .before .before .conflict-names-no-node .ensures) ∙ (c .before .before .if1 .left)) (given _ _ _ (sym (c .before .conflict-not-outer .ensures) ∙ (c .if2 .taken)))))
-    (λ c. rw conflict-opened (passed _ _ _ _ (sym (c .before .before .before .before .before .conflict-names-no-node .ensures) ∙ (c .before .before .before .before .if1 .left)) (passed _ _ _ _ (sym (c .before .before .before .conflict-not-outer .ensures) ∙ (c .before .before .if2 .left)) (given _ _ _ (eq-eqb _ _ (c .if3 .taken))))))
+    (λ c. conflict-judged _ _ _ _ (c .before .before .seen-state .ensures) refl _ (given _ _ _ (sym (c .before .is-no-side .ensures) ∙ (c .if1 .taken))))
     (λ c κs. search needs)
-    (λ c. rw conflict-opened (passed _ _ _ _ (sym (c .before .before .before .before .before .before .before .conflict-names-no-node .ensures) ∙ (c .before .before .before .before .before .before .if1 .left)) (passed _ _ _ _ (sym (c .before .before .before .before .before .conflict-not-outer .ensures) ∙ (c .before .before .before .before .if2 .left)) (passed _ _ _ _ (ne-eqb _ _ (c .before .before .if3 .left)) (given _ _ _ (sym (c .before .conflict-touches-outside .ensures) ∙ (c .if4 .taken)))))))
     (λ c κs. search needs)
-    (λ c. rw conflict-opened (passed _ _ _ _ (sym (c .before .before .before .before .before .before .before .before .before .conflict-names-no-node .ensures) ∙ (c .before .before .before .before .before .before .before .before .if1 .left)) (passed _ _ _ _ (sym (c .before .before .before .before .before .before .before .conflict-not-outer .ensures) ∙ (c .before .before .before .before .before .before .if2 .left)) (passed _ _ _ _ (ne-eqb _ _ (c .before .before .before .before .if3 .left)) (passed _ _ _ _ (sym (c .before .before .before .conflict-touches-outside .ensures) ∙ (c .before .before .if4 .left)) (given _ _ _ (sym (c .before .conflict-not-growing .ensures) ∙ (c .if5 .taken))))))))
+    (λ c. conflict-judged _ _ _ _ (c .before .before .before .before .before .seen-state .ensures) (c .before .before .seen-state2 .ensures) _ (passed _ _ _ _ (sym (c .before .before .before .before .is-no-side .ensures) ∙ (c .before .before .before .if1 .left)) (given _ _ _ (sym (c .before .is-no-side2 .ensures) ∙ (c .if2 .taken)))))
     (λ c κs. search needs)
-    (λ c. rw conflict-opened (passed _ _ _ _ (sym (c .before .before .before .before .before .before .before .before .before .before .before .conflict-names-no-node .ensures) ∙ (c .before .before .before .before .before .before .before .before .before .before .if1 .left)) (passed _ _ _ _ (sym (c .before .before .before .before .before .before .before .before .before .conflict-not-outer .ensures) ∙ (c .before .before .before .before .before .before .before .before .if2 .left)) (passed _ _ _ _ (ne-eqb _ _ (c .before .before .before .before .before .before .if3 .left)) (passed _ _ _ _ (sym (c .before .before .before .before .before .conflict-touches-outside .ensures) ∙ (c .before .before .before .before .if4 .left)) (passed _ _ _ _ (sym (c .before .before .before .conflict-not-growing .ensures) ∙ (c .before .before .if5 .left)) (given _ _ _ (sym (c .before .conflict-lacks-slot .ensures) ∙ (c .if6 .taken)))))))))
-    (λ c. rw conflict-opened (passed _ _ _ _ (sym (c .before .before .before .before .before .before .before .before .before .before .before .conflict-names-no-node .ensures) ∙ (c .before .before .before .before .before .before .before .before .before .before .if1 .left)) (passed _ _ _ _ (sym (c .before .before .before .before .before .before .before .before .before .conflict-not-outer .ensures) ∙ (c .before .before .before .before .before .before .before .before .if2 .left)) (passed _ _ _ _ (ne-eqb _ _ (c .before .before .before .before .before .before .if3 .left)) (passed _ _ _ _ (sym (c .before .before .before .before .before .conflict-touches-outside .ensures) ∙ (c .before .before .before .before .if4 .left)) (passed _ _ _ _ (sym (c .before .before .before .conflict-not-growing .ensures) ∙ (c .before .before .if5 .left)) (passed _ _ _ _ (sym (c .before .conflict-lacks-slot .ensures) ∙ (c .if6 .left)) (refl)))))))))
+    (λ c. conflict-judged _ _ _ _ (c .before .before .before .before .before .before .before .seen-state .ensures) (c .before .before .before .before .seen-state2 .ensures) _ (passed _ _ _ _ (sym (c .before .before .before .before .before .before .is-no-side .ensures) ∙ (c .before .before .before .before .before .if1 .left)) (passed _ _ _ _ (sym (c .before .before .before .is-no-side2 .ensures) ∙ (c .before .before .if2 .left)) (given _ _ _ (sym (c .before .is-not-outer .ensures) ∙ (c .if3 .taken))))))
+    (λ c κs. search needs)
+    (λ c. conflict-judged _ _ _ _ (c .before .before .before .before .before .before .before .before .before .seen-state .ensures) (c .before .before .before .before .before .before .seen-state2 .ensures) _ (passed _ _ _ _ (sym (c .before .before .before .before .before .before .before .before .is-no-side .ensures) ∙ (c .before .before .before .before .before .before .before .if1 .left)) (passed _ _ _ _ (sym (c .before .before .before .before .before .is-no-side2 .ensures) ∙ (c .before .before .before .before .if2 .left)) (passed _ _ _ _ (sym (c .before .before .before .is-not-outer .ensures) ∙ (c .before .before .if3 .left)) (given _ _ _ (sym (c .before .is-not-outer2 .ensures) ∙ (c .if4 .taken)))))))
+    (λ c. conflict-judged _ _ _ _ (c .before .before .before .before .before .before .before .before .before .before .before .before .seen-state .ensures) (c .before .before .before .before .before .before .before .before .before .seen-state2 .ensures) _ (passed _ _ _ _ (sym (c .before .before .before .before .before .before .before .before .before .before .before .is-no-side .ensures) ∙ (c .before .before .before .before .before .before .before .before .before .before .if1 .left)) (passed _ _ _ _ (sym (c .before .before .before .before .before .before .before .before .is-no-side2 .ensures) ∙ (c .before .before .before .before .before .before .before .if2 .left)) (passed _ _ _ _ (sym (c .before .before .before .before .before .before .is-not-outer .ensures) ∙ (c .before .before .before .before .before .if3 .left)) (passed _ _ _ _ (sym (c .before .before .before .before .is-not-outer2 .ensures) ∙ (c .before .before .before .if4 .left)) (given _ _ _ (eq-eqb _ _ (c .if5 .taken))))))))
+    (λ c κs. search needs)
+    (λ c. conflict-judged _ _ _ _ (c .before .before .before .before .before .before .before .before .before .before .before .before .before .before .seen-state .ensures) (c .before .before .before .before .before .before .before .before .before .before .before .seen-state2 .ensures) _ (passed _ _ _ _ (sym (c .before .before .before .before .before .before .before .before .before .before .before .before .before .is-no-side .ensures) ∙ (c .before .before .before .before .before .before .before .before .before .before .before .before .if1 .left)) (passed _ _ _ _ (sym (c .before .before .before .before .before .before .before .before .before .before .is-no-side2 .ensures) ∙ (c .before .before .before .before .before .before .before .before .before .if2 .left)) (passed _ _ _ _ (sym (c .before .before .before .before .before .before .before .before .is-not-outer .ensures) ∙ (c .before .before .before .before .before .before .before .if3 .left)) (passed _ _ _ _ (sym (c .before .before .before .before .before .before .is-not-outer2 .ensures) ∙ (c .before .before .before .before .before .if4 .left)) (passed _ _ _ _ (ne-eqb _ _ (c .before .before .if5 .left)) (given _ _ _ (sym (c .before .touches-elsewhere .ensures) ∙ (c .if6 .taken)))))))))
+    (λ c κs. search needs)
+    (λ c. conflict-judged _ _ _ _ (c .before .before .before .before .before .before .before .before .before .before .before .before .before .before .before .before .seen-state .ensures) (c .before .before .before .before .before .before .before .before .before .before .before .before .before .seen-state2 .ensures) _ (passed _ _ _ _ (sym (c .before .before .before .before .before .before .before .before .before .before .before .before .before .before .before .is-no-side .ensures) ∙ (c .before .before .before .before .before .before .before .before .before .before .before .before .before .before .if1 .left)) (passed _ _ _ _ (sym (c .before .before .before .before .before .before .before .before .before .before .before .before .is-no-side2 .ensures) ∙ (c .before .before .before .before .before .before .before .before .before .before .before .if2 .left)) (passed _ _ _ _ (sym (c .before .before .before .before .before .before .before .before .before .before .is-not-outer .ensures) ∙ (c .before .before .before .before .before .before .before .before .before .if3 .left)) (passed _ _ _ _ (sym (c .before .before .before .before .before .before .before .before .is-not-outer2 .ensures) ∙ (c .before .before .before .before .before .before .before .if4 .left)) (passed _ _ _ _ (ne-eqb _ _ (c .before .before .before .before .if5 .left)) (passed _ _ _ _ (sym (c .before .before .before .touches-elsewhere .ensures) ∙ (c .before .before .if6 .left)) (given _ _ _ (sym (c .before .touches-elsewhere2 .ensures) ∙ (c .if7 .taken))))))))))
+    (λ c κs. search needs)
+    (λ c. conflict-judged _ _ _ _ (c .before .before .before .before .before .before .before .before .before .before .before .before .before .before .before .before .before .before .seen-state .ensures) (c .before .before .before .before .before .before .before .before .before .before .before .before .before .before .before .seen-state2 .ensures) _ (passed _ _ _ _ (sym (c .before .before .before .before .before .before .before .before .before .before .before .before .before .before .before .before .before .is-no-side .ensures) ∙ (c .before .before .before .before .before .before .before .before .before .before .before .before .before .before .before .before .if1 .left)) (passed _ _ _ _ (sym (c .before .before .before .before .before .before .before .before .before .before .before .before .before .before .is-no-side2 .ensures) ∙ (c .before .before .before .before .before .before .before .before .before .before .before .before .before .if2 .left)) (passed _ _ _ _ (sym (c .before .before .before .before .before .before .before .before .before .before .before .before .is-not-outer .ensures) ∙ (c .before .before .before .before .before .before .before .before .before .before .before .if3 .left)) (passed _ _ _ _ (sym (c .before .before .before .before .before .before .before .before .before .before .is-not-outer2 .ensures) ∙ (c .before .before .before .before .before .before .before .before .before .if4 .left)) (passed _ _ _ _ (ne-eqb _ _ (c .before .before .before .before .before .before .if5 .left)) (passed _ _ _ _ (sym (c .before .before .before .before .before .touches-elsewhere .ensures) ∙ (c .before .before .before .before .if6 .left)) (passed _ _ _ _ (sym (c .before .before .before .touches-elsewhere2 .ensures) ∙ (c .before .before .if7 .left)) (given _ _ _ (sym (c .before .are-not-growing .ensures) ∙ (c .if8 .taken)))))))))))
+    (λ c κs. search needs)
+    (λ c. conflict-judged _ _ _ _ (c .before .before .before .before .before .before .before .before .before .before .before .before .before .before .before .before .before .before .before .before .seen-state .ensures) (c .before .before .before .before .before .before .before .before .before .before .before .before .before .before .before .before .before .seen-state2 .ensures) _ (passed _ _ _ _ (sym (c .before .before .before .before .before .before .before .before .before .before .before .before .before .before .before .before .before .before .before .is-no-side .ensures) ∙ (c .before .before .before .before .before .before .before .before .before .before .before .before .before .before .before .before .before .before .if1 .left)) (passed _ _ _ _ (sym (c .before .before .before .before .before .before .before .before .before .before .before .before .before .before .before .before .is-no-side2 .ensures) ∙ (c .before .before .before .before .before .before .before .before .before .before .before .before .before .before .before .if2 .left)) (passed _ _ _ _ (sym (c .before .before .before .before .before .before .before .before .before .before .before .before .before .before .is-not-outer .ensures) ∙ (c .before .before .before .before .before .before .before .before .before .before .before .before .before .if3 .left)) (passed _ _ _ _ (sym (c .before .before .before .before .before .before .before .before .before .before .before .before .is-not-outer2 .ensures) ∙ (c .before .before .before .before .before .before .before .before .before .before .before .if4 .left)) (passed _ _ _ _ (ne-eqb _ _ (c .before .before .before .before .before .before .before .before .if5 .left)) (passed _ _ _ _ (sym (c .before .before .before .before .before .before .before .touches-elsewhere .ensures) ∙ (c .before .before .before .before .before .before .if6 .left)) (passed _ _ _ _ (sym (c .before .before .before .before .before .touches-elsewhere2 .ensures) ∙ (c .before .before .before .before .if7 .left)) (passed _ _ _ _ (sym (c .before .before .before .are-not-growing .ensures) ∙ (c .before .before .if8 .left)) (slot-left (tableOf (c .before .before .before .before .before .before .before .before .before .before .before .before .before .before .before .before .before .before .before .before .before .before .before .before .before .before .before .args .t .now)) (c .before .before .before .before .before .before .before .before .before .before .before .before .before .before .before .before .before .before .before .before .before .before .before .before .before .before .before .args .c) (sym (c .before .lacks-blossom-slot .ensures) ∙ not-true _ (c .if9 .taken))))))))))))
+    (λ c κs. search needs)
+    (λ c. conflict-judged _ _ _ _ (c .before .before .before .before .before .before .before .before .before .before .before .before .before .before .before .before .before .before .before .before .before .before .seen-state .ensures) (c .before .before .before .before .before .before .before .before .before .before .before .before .before .before .before .before .before .before .before .seen-state2 .ensures) _ (passed _ _ _ _ (sym (c .before .before .before .before .before .before .before .before .before .before .before .before .before .before .before .before .before .before .before .before .before .is-no-side .ensures) ∙ (c .before .before .before .before .before .before .before .before .before .before .before .before .before .before .before .before .before .before .before .before .if1 .left)) (passed _ _ _ _ (sym (c .before .before .before .before .before .before .before .before .before .before .before .before .before .before .before .before .before .before .is-no-side2 .ensures) ∙ (c .before .before .before .before .before .before .before .before .before .before .before .before .before .before .before .before .before .if2 .left)) (passed _ _ _ _ (sym (c .before .before .before .before .before .before .before .before .before .before .before .before .before .before .before .before .is-not-outer .ensures) ∙ (c .before .before .before .before .before .before .before .before .before .before .before .before .before .before .before .if3 .left)) (passed _ _ _ _ (sym (c .before .before .before .before .before .before .before .before .before .before .before .before .before .before .is-not-outer2 .ensures) ∙ (c .before .before .before .before .before .before .before .before .before .before .before .before .before .if4 .left)) (passed _ _ _ _ (ne-eqb _ _ (c .before .before .before .before .before .before .before .before .before .before .if5 .left)) (passed _ _ _ _ (sym (c .before .before .before .before .before .before .before .before .before .touches-elsewhere .ensures) ∙ (c .before .before .before .before .before .before .before .before .if6 .left)) (passed _ _ _ _ (sym (c .before .before .before .before .before .before .before .touches-elsewhere2 .ensures) ∙ (c .before .before .before .before .before .before .if7 .left)) (passed _ _ _ _ (sym (c .before .before .before .before .before .are-not-growing .ensures) ∙ (c .before .before .before .before .if8 .left)) (slot-lacking _ _ (sym (c .before .before .before .lacks-blossom-slot .ensures) ∙ not-false _ (c .before .before .if9 .left)) (sym (c .before .makes-blossom .ensures) ∙ (c .if10 .taken))))))))))))
+    (λ c. conflict-judged _ _ _ _ (c .before .before .before .before .before .before .before .before .before .before .before .before .before .before .before .before .before .before .before .before .before .before .seen-state .ensures) (c .before .before .before .before .before .before .before .before .before .before .before .before .before .before .before .before .before .before .before .seen-state2 .ensures) _ (passed _ _ _ _ (sym (c .before .before .before .before .before .before .before .before .before .before .before .before .before .before .before .before .before .before .before .before .before .is-no-side .ensures) ∙ (c .before .before .before .before .before .before .before .before .before .before .before .before .before .before .before .before .before .before .before .before .if1 .left)) (passed _ _ _ _ (sym (c .before .before .before .before .before .before .before .before .before .before .before .before .before .before .before .before .before .before .is-no-side2 .ensures) ∙ (c .before .before .before .before .before .before .before .before .before .before .before .before .before .before .before .before .before .if2 .left)) (passed _ _ _ _ (sym (c .before .before .before .before .before .before .before .before .before .before .before .before .before .before .before .before .is-not-outer .ensures) ∙ (c .before .before .before .before .before .before .before .before .before .before .before .before .before .before .before .if3 .left)) (passed _ _ _ _ (sym (c .before .before .before .before .before .before .before .before .before .before .before .before .before .before .is-not-outer2 .ensures) ∙ (c .before .before .before .before .before .before .before .before .before .before .before .before .before .if4 .left)) (passed _ _ _ _ (ne-eqb _ _ (c .before .before .before .before .before .before .before .before .before .before .if5 .left)) (passed _ _ _ _ (sym (c .before .before .before .before .before .before .before .before .before .touches-elsewhere .ensures) ∙ (c .before .before .before .before .before .before .before .before .if6 .left)) (passed _ _ _ _ (sym (c .before .before .before .before .before .before .before .touches-elsewhere2 .ensures) ∙ (c .before .before .before .before .before .before .if7 .left)) (passed _ _ _ _ (sym (c .before .before .before .before .before .are-not-growing .ensures) ∙ (c .before .before .before .before .if8 .left)) (none-to-make _ _ (sym (c .before .makes-blossom .ensures) ∙ (c .if10 .left)))))))))))))

@@ -1,11 +1,13 @@
-use Rattle.request_judging.proofs.TreesSteps.{no-root, two-roots}
+use Rattle.request_judging.proofs.TreesSteps.{by-ways}
 use borrow.Author.Needs.{needs}
 use Rattle.request_judging.proofs.trees.same_tree.Statement.{statement}
 use Rattle.request_judging.proofs.trees.same_tree.Tie as tie
 
 pub same-tree-spec : {M : Type 1} → statement M
-same-tree-spec = tie.close (tie.spec
+same-tree-spec =
+    tie.close
+    (tie.spec
     (λ c κs. search needs)
     (λ c κs. search needs)
-    (λ c. no-root _ _ _ _ _ (c .before .before .before .root-of .ensures) (c .before .before .root-of2 .ensures) (c .if1 .taken))
-    (λ c. two-roots _ _ _ _ _ (c .before .before .before .before .before .root-of .ensures) (c .before .before .before .before .root-of2 .ensures) (c .before .before .if1 .left)))
+    (λ c κs. search needs)
+    (λ c. by-ways _ _ _ _ _ _ (c .before .before .before .before .way-up .ensures .0) (c .before .before .way-up2 .ensures .0) (c .one-root .ensures)))

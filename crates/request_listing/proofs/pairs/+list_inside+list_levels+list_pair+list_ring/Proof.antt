@@ -1,5 +1,11 @@
+use mathlib.Core.Path.{_≡_, refl}
+use lib.ListN.{length}
+use Prim.Native.Nat.{_≤_}
+use Rattle.table.specs.Words.{tableOf}
+use Rattle.record.specs.Writing.{outOf, writeAll}
+use Rattle.rules.specs.Listing.{levelsListed, ringListed}
 use borrow.Author.Needs.{needs}
-use Rattle.request_listing.proofs.PairsSteps.{inside-yes, inside-no, pair-spent, pair-step, levels-spent, levels-outer, levels-last, levels-more, ring-spent, ring-end, ring-step}
+use Rattle.request_listing.proofs.PairsSteps.{inside-yes, inside-no, pair-spent, pair-step, levels-spent, levels-outer, levels-last, levels-more, ring-spent, ring-end, ring-step, ring-falls, less-still}
 use Prim.Native.Nat.{_*_, _+_}
 use mathlib.Core.Path.{sym, _∙_}
 use Prim.Native.Nat.{ℕ, _<_}
@@ -69,6 +75,18 @@ abbrev list-ring-below : ℕ → In 2 list-ring-kinds.ps
 list-ring-below t =
     and 2 list-ring-kinds.ps (falls 2 list-ring-kinds.ps _<_ μ-list-ring t) list-ring.Pre
 
+abbrev list-ring-Inv-loop : list-ring-lts.InvT-loop
+list-ring-Inv-loop t out₀ pos touched left here₀ end₀ still₀ out here end still = (length out ≡ length out₀) × (writeAll (outOf out end) (ringListed still (touched .0) (here .0) (tableOf t)) ≡ writeAll (outOf out₀ end₀) (ringListed still₀ (touched .0) (here₀ .0) (tableOf t))) × (still ≤ still₀)
+
+abbrev list-ring-μ-loop : list-ring-lts.MeasureT-loop
+list-ring-μ-loop t out₀ pos touched left here₀ end₀ still₀ out here end still = still
+
+abbrev list-levels-Inv-loop : list-levels-lts.InvT-loop
+list-levels-Inv-loop t out₀ pos b left here₀ end₀ still₀ out here end still = (length out ≡ length out₀) × (writeAll (outOf out end) (levelsListed still (b .0) (here .0) (tableOf t)) ≡ writeAll (outOf out₀ end₀) (levelsListed still₀ (b .0) (here₀ .0) (tableOf t))) × (still ≤ still₀)
+
+abbrev list-levels-μ-loop : list-levels-lts.MeasureT-loop
+list-levels-μ-loop t out₀ pos b left here₀ end₀ still₀ out here end still = still
+
 pub +list-inside+list-levels+list-pair+list-ring-spec : {M : Type 1} → statement M
 +list-inside+list-levels+list-pair+list-ring-spec =
     close μ-list-inside μ-list-levels μ-list-pair μ-list-ring (λ t. list-inside-lts.spec (
@@ -93,24 +111,26 @@ pub +list-inside+list-levels+list-pair+list-ring-spec : {M : Type 1} → stateme
       list-ring.Post,
       parent-reads.Asked,
       parent-reads.Learnt,
-      list-levels-below t,
-      list-levels.Post,
     )
     (list-levels-at t)
     list-levels.Post
-    (λ c. levels-spent _ _ _ _ _ (c .if1 .taken))
+    list-levels-Inv-loop
+    list-levels-μ-loop
+    (λ c. (refl, refl, search needs))
+    (λ c. c .before .loop .inv .0)
+    (λ c. levels-spent _ _ _ _ _ (c .if1 .taken) ∙ (c .before .loop .inv .1))
     (λ c κs. search needs)
-    (λ c. levels-outer _ _ _ _ _ (sym (c .before .is-outer .ensures) ∙ (c .if2 .taken)))
-    (λ c κs. search needs)
-    (λ c. search needs)
-    (λ c κs. search needs)
-    (λ c κs. search needs)
-    (λ c. search needs)
-    (λ c. levels-last _ _ _ _ _ _ _ _ (c .before .before .before .before .before .before .before .before .before .before .before .if1 .left) (sym (c .before .before .before .before .before .before .before .before .before .before .is-outer .ensures) ∙ (c .before .before .before .before .before .before .before .before .before .if2 .left)) (c .before .before .before .before .before .before .before .before .sibling .ensures) (c .before .before .before .before .before .before .list-ring .ensures) (c .before .before .before .parent .ensures) (c .if3 .taken))
-    (λ c. search needs)
+    (λ c. c .before .before .before .loop .inv .0)
+    (λ c. levels-outer _ _ _ _ _ (sym (c .before .is-outer .ensures) ∙ (c .if2 .taken)) ∙ (c .before .before .before .loop .inv .1))
     (λ c κs. search needs)
     (λ c. search needs)
-    (λ c. levels-more _ _ _ _ _ _ _ _ _ (c .before .before .before .before .before .before .before .before .before .before .before .before .before .before .before .if1 .left) (sym (c .before .before .before .before .before .before .before .before .before .before .before .before .before .before .is-outer .ensures) ∙ (c .before .before .before .before .before .before .before .before .before .before .before .before .before .if2 .left)) (c .before .before .before .before .before .before .before .before .before .before .before .before .sibling .ensures) (c .before .before .before .before .before .before .before .before .before .before .list-ring .ensures) (c .before .before .before .before .before .before .before .parent .ensures) (c .before .before .before .before .if3 .left) (c .before .before .list-levels .ensures)))
+    (λ c κs. (ring-falls _ _ _ (c .before .before .before .before .before .before .before .pre .0) (c .before .before .before .before .before .loop .inv .2) (c .before .before .before .before .if1 .left), Prim.tt))
+    (λ c κs. search needs)
+    (λ c. search needs)
+    (λ c. levels-last _ _ _ _ _ _ _ _ (c .before .before .before .before .before .before .before .before .before .before .before .if1 .left) (sym (c .before .before .before .before .before .before .before .before .before .before .is-outer .ensures) ∙ (c .before .before .before .before .before .before .before .before .before .if2 .left)) (c .before .before .before .before .before .before .before .before .sibling .ensures) (c .before .before .before .before .before .before .list-ring .ensures) (c .before .before .before .parent .ensures) (c .if3 .taken) ∙ (c .before .before .before .before .before .before .before .before .before .before .before .before .loop .inv .1))
+    (λ c. search needs)
+    (λ c. search needs)
+    (λ c. (search needs, levels-more _ _ _ _ _ _ _ _ _ (c .before .before .before .before .before .before .before .before .before .before .before .if1 .left) (sym (c .before .before .before .before .before .before .before .before .before .before .is-outer .ensures) ∙ (c .before .before .before .before .before .before .before .before .before .if2 .left)) (c .before .before .before .before .before .before .before .before .sibling .ensures) (c .before .before .before .before .before .before .list-ring .ensures) (c .before .before .before .parent .ensures) (c .if3 .left) refl ∙ (c .before .before .before .before .before .before .before .before .before .before .before .before .loop .inv .1), less-still _ _ (c .before .before .before .before .before .before .before .before .before .before .before .before .loop .inv .2))))
     (λ t. list-pair-lts.spec (
       list-inside-below t,
       list-inside.Post,
@@ -137,19 +157,21 @@ pub +list-inside+list-levels+list-pair+list-ring-spec : {M : Type 1} → stateme
       link-reads.Learnt,
       list-pair-below t,
       list-pair.Post,
-      list-ring-below t,
-      list-ring.Post,
     )
     (list-ring-at t)
     list-ring.Post
-    (λ c. ring-spent _ _ _ _ _ (c .if1 .taken))
-    (λ c. ring-end _ _ _ _ _ (c .if2 .taken))
+    list-ring-Inv-loop
+    list-ring-μ-loop
+    (λ c. (refl, refl, search needs))
+    (λ c. c .before .loop .inv .0)
+    (λ c. ring-spent _ _ _ _ _ (c .if1 .taken) ∙ (c .before .loop .inv .1))
+    (λ c. c .before .before .before .before .loop .inv .0)
+    (λ c. ring-end _ _ _ _ _ (c .if2 .taken) ∙ (c .before .before .before .before .loop .inv .1))
     (λ c κs. search needs)
     (λ c κs. search needs)
     (λ c. search needs)
-    (λ c κs. search needs)
-    (λ c κs. search needs)
-    (λ c. search needs)
+    (λ c κs. (ring-falls _ _ _ (c .before .before .before .before .before .before .before .before .before .pre .0) (c .before .before .before .before .before .before .before .loop .inv .2) (c .before .before .before .before .before .before .if1 .left), Prim.tt))
     (λ c κs. search needs)
     (λ c. search needs)
-    (λ c. ring-step _ _ _ _ _ _ _ _ _ _ (c .before .before .before .before .before .before .before .before .before .before .before .before .before .before .if1 .left) (c .before .before .before .before .before .before .before .before .before .before .before .if2 .left) (c .before .before .before .before .before .before .before .before .before .before .sibling .ensures) (c .before .before .before .before .before .before .before .before .before .link .ensures) (c .before .before .before .before .before .before .before .list-pair .ensures) (c .before .before .before .before .sibling2 .ensures) (c .before .before .list-ring .ensures))
+    (λ c. search needs)
+    (λ c. (search needs, ring-step _ _ _ _ _ _ _ _ _ _ (c .before .before .before .before .before .before .before .before .before .before .if1 .left) (c .before .before .before .before .before .before .before .if2 .left) (c .before .before .before .before .before .before .sibling .ensures) (c .before .before .before .before .before .link .ensures) (c .before .before .before .list-pair .ensures) (c .sibling2 .ensures) refl ∙ (c .before .before .before .before .before .before .before .before .before .before .before .loop .inv .1), less-still _ _ (c .before .before .before .before .before .before .before .before .before .before .before .loop .inv .2)))

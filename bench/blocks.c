@@ -1,0 +1,98 @@
+/* A plugin of the emulator qemu-x86_64 that counts how often each instruction of a program is executed.
+ *
+ *   qemu-x86_64 -plugin blocks.so,out=FILE PROGRAM WORDS..
+ *
+ * writes to FILE, when the program ends, a line `ADDRESS COUNT` for every instruction that was translated, both decimal. A block of
+ * instructions is translated as one and may be translated again, so an address can have several lines, which are to be added up.
+ *
+ * Only what every version of the plugin interface has is used, declared here since few systems have its header. The version that the
+ * emulator wants is set by -DVERSION; bench/profile tries them.
+ */
+#include <inttypes.h>
+#include <stddef.h>
+#include <stdio.h>
+#include <stdlib.h>
+#include <string.h>
+
+#ifndef VERSION
+#define VERSION 1
+#endif
+
+typedef uint64_t plugin_id;
+struct qemu_plugin_tb;
+struct qemu_plugin_insn;
+enum { NO_REGISTERS };
+
+extern void qemu_plugin_register_vcpu_tb_trans_cb(plugin_id, void (*)(plugin_id, struct qemu_plugin_tb *));
+extern void qemu_plugin_register_vcpu_tb_exec_cb(struct qemu_plugin_tb *, void (*)(unsigned, void *), int, void *);
+extern void qemu_plugin_register_atexit_cb(plugin_id, void (*)(plugin_id, void *), void *);
+extern size_t qemu_plugin_tb_n_insns(const struct qemu_plugin_tb *);
+extern struct qemu_plugin_insn *qemu_plugin_tb_get_insn(const struct qemu_plugin_tb *, size_t);
+extern uint64_t qemu_plugin_insn_vaddr(const struct qemu_plugin_insn *);
+
+#define SHOWN __attribute__((visibility("default")))
+
+SHOWN int qemu_plugin_version = VERSION;
+
+struct block {
+	struct block *next;
+	uint64_t times;
+	size_t length;
+	uint64_t address[];
+};
+
+static struct block *blocks;
+static const char *out;
+
+static void executed(unsigned cpu, void *block)
+{
+	(void)cpu;
+	((struct block *)block)->times++;
+}
+
+static void translated(plugin_id id, struct qemu_plugin_tb *tb)
+{
+	size_t length = qemu_plugin_tb_n_insns(tb);
+	struct block *block = malloc(sizeof *block + length * sizeof block->address[0]);
+	(void)id;
+	if (block == NULL)
+		abort();
+	block->next = blocks;
+	block->times = 0;
+	block->length = length;
+	for (size_t i = 0; i < length; i++)
+		block->address[i] = qemu_plugin_insn_vaddr(qemu_plugin_tb_get_insn(tb, i));
+	blocks = block;
+	qemu_plugin_register_vcpu_tb_exec_cb(tb, executed, NO_REGISTERS, block);
+}
+
+static void ended(plugin_id id, void *nothing)
+{
+	FILE *file = fopen(out, "w");
+	(void)id;
+	(void)nothing;
+	if (file == NULL) {
+		fprintf(stderr, "blocks: %s cannot be written\n", out);
+		return;
+	}
+	for (struct block *block = blocks; block != NULL; block = block->next)
+		for (size_t i = 0; i < block->length; i++)
+			fprintf(file, "%" PRIu64 " %" PRIu64 "\n", block->address[i], block->times);
+	fclose(file);
+}
+
+/* What is told of the emulator is not read. */
+SHOWN int qemu_plugin_install(plugin_id id, const void *emulator, int argc, char **argv)
+{
+	(void)emulator;
+	for (int i = 0; i < argc; i++)
+		if (strncmp(argv[i], "out=", 4) == 0)
+			out = strdup(argv[i] + 4);
+	if (out == NULL) {
+		fprintf(stderr, "blocks: no file is named by out=FILE\n");
+		return 1;
+	}
+	qemu_plugin_register_vcpu_tb_trans_cb(id, translated);
+	qemu_plugin_register_atexit_cb(id, ended, NULL);
+	return 0;
+}

@@ -1,0 +1,41 @@
+# shellcheck shell=sh
+# What bench/profile and bench/draw-growth share: the driver run under the emulator's plugin that counts instructions. Each reads
+# tools/common.sh first, and sets `dir`, where what is built goes.
+
+# Looks for what counting needs besides the compiler.
+want_counter() {
+    command -v gcc >/dev/null 2>&1 || lack "there is no compiler gcc, which builds the emulator's plugin: install the Debian packages gcc and libc6-dev"
+    command -v qemu-x86_64 >/dev/null 2>&1 || lack "there is no emulator qemu-x86_64: install the Debian package qemu-user"
+}
+
+# Builds the driver, and the plugin for the version of the interface that the emulator has.
+build_counter() {
+    build "$dir/driver" -Iinclude bench/driver.c || missing "bench/driver.c could not be built with $cc; its words stand above"
+    printf 'int main(void) { return 0; }\n' >"$dir/small.c"
+    # shellcheck disable=SC2086
+    $cc $link ${CFLAGS:-} "$dir/small.c" -o "$dir/small" || missing "$cc does not compile a small program; its words stand above"
+    for version in 1 2 3 4 5 6; do
+        gcc -shared -fPIC -O2 -Wall -Wextra -DVERSION=$version bench/blocks.c -o "$dir/blocks.so" ||
+            missing "bench/blocks.c could not be built with gcc; its words stand above"
+        rm -f "$dir/counts"
+        if qemu-x86_64 -plugin "$dir/blocks.so,out=$dir/counts" "$dir/small" >"$dir/said" 2>&1 && [ -s "$dir/counts" ]; then return; fi
+    done
+    say "the emulator qemu-x86_64 does not take the plugin bench/blocks.c; it says:"
+    quote "$dir/said"
+    exit 2
+}
+
+# count FILE TIMES WORDS..: the driver's work done so many times, counted by address into the file
+count() {
+    file=$1 times=$2
+    shift 2
+    rm -f "$file"
+    qemu-x86_64 -plugin "$dir/blocks.so,out=$file" "$dir/driver" "$@" "$times" >"$dir/said" 2>&1 || {
+        status=$?
+        done_with_it
+        say "the driver does not do $*: $(cat "$dir/said")"
+        [ $status -eq 1 ] || status=2
+        exit $status
+    }
+    [ -s "$file" ] || missing "the plugin wrote no counts to $file"
+}
