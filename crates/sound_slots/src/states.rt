@@ -12,10 +12,11 @@ use table::Table;
 ghost use mathlib.Core.Path.{_≡_};
 ghost use Rattle.slot.specs.Slot.{slotOf};
 ghost use Rattle.table.specs.Words.{tableOf};
+ghost use Rattle.sound_slots.specs.Links.{isHeld};
 ghost use Rattle.sound_slots.specs.States.{innerHolds, stayHolds, growHolds, shrinkHolds};
 
-pub fn inner_holds(t: &Table, n: Node, s: Slot) -> bool
-    ensures { λ r. ⌜ r ≡ innerHolds (tableOf (now (t .entry))) (n .0) (slotOf s) ⌝ }
+pub fn inner_holds<'a>(t: &Table, lo: &'a [u16], hi: &'a [u16], n: Node, s: Slot) -> bool
+    ensures { λ r. ⌜ r ≡ innerHolds (isHeld (tableOf (now (t .entry))) (now (lo .entry)) (now (hi .entry))) (n .0) (slotOf s) ⌝ }
 {
     let link = s.link;
     let above = s.parent;
@@ -27,11 +28,11 @@ pub fn inner_holds(t: &Table, n: Node, s: Slot) -> bool
     if !larger {
         return false;
     }
-    touches_hold(t, n, next, link)
+    touches_hold(t, lo, hi, n, next, link)
 }
 
-pub fn stay_holds(t: &Table, n: Node, s: Slot) -> bool
-    ensures { λ r. ⌜ r ≡ stayHolds (tableOf (now (t .entry))) (n .0) (slotOf s) ⌝ }
+pub fn stay_holds<'a>(t: &Table, lo: &'a [u16], hi: &'a [u16], n: Node, s: Slot) -> bool
+    ensures { λ r. ⌜ r ≡ stayHolds (tableOf (now (t .entry))) (isHeld (tableOf (now (t .entry))) (now (lo .entry)) (now (hi .entry))) (n .0) (slotOf s) ⌝ }
 {
     let link = s.link;
     let next = s.sibling;
@@ -45,16 +46,16 @@ pub fn stay_holds(t: &Table, n: Node, s: Slot) -> bool
         if link.peer_touch.0 != slot::number::NO_NODE {
             return false;
         }
-        return touch_holds(t, n, link.touch);
+        return touch_holds(t, lo, hi, n, link.touch);
     }
     if !pair_holds(t, n, s) {
         return false;
     }
-    touches_hold(t, n, next, link)
+    touches_hold(t, lo, hi, n, next, link)
 }
 
-pub fn grow_holds(t: &Table, n: Node, s: Slot) -> bool
-    ensures { λ r. ⌜ r ≡ growHolds (tableOf (now (t .entry))) (n .0) (slotOf s) ⌝ }
+pub fn grow_holds<'a>(t: &Table, lo: &'a [u16], hi: &'a [u16], n: Node, s: Slot) -> bool
+    ensures { λ r. ⌜ r ≡ growHolds (tableOf (now (t .entry))) (isHeld (tableOf (now (t .entry))) (now (lo .entry)) (now (hi .entry))) (n .0) (slotOf s) ⌝ }
 {
     let link = s.link;
     let above = s.parent;
@@ -70,12 +71,12 @@ pub fn grow_holds(t: &Table, n: Node, s: Slot) -> bool
     if !both(through, shrinks) {
         return false;
     }
-    touches_hold(t, n, above, link)
+    touches_hold(t, lo, hi, n, above, link)
 }
 
 // Nothing is asked of the child: an outer node below a − node must be Grow, and so has no sibling.
-pub fn shrink_holds(t: &Table, n: Node, s: Slot) -> bool
-    ensures { λ r. ⌜ r ≡ shrinkHolds (tableOf (now (t .entry))) (n .0) (slotOf s) ⌝ }
+pub fn shrink_holds<'a>(t: &Table, lo: &'a [u16], hi: &'a [u16], n: Node, s: Slot) -> bool
+    ensures { λ r. ⌜ r ≡ shrinkHolds (tableOf (now (t .entry))) (isHeld (tableOf (now (t .entry))) (now (lo .entry)) (now (hi .entry))) (n .0) (slotOf s) ⌝ }
 {
     let link = s.link;
     let above = s.parent;
@@ -88,5 +89,5 @@ pub fn shrink_holds(t: &Table, n: Node, s: Slot) -> bool
     if !own {
         return false;
     }
-    touches_hold(t, n, above, link)
+    touches_hold(t, lo, hi, n, above, link)
 }

@@ -8,3 +8,5 @@ pub mod SoundRingsSteps
 pub mod SoundRingsPaths
 pub mod DepthSteps
 pub mod WaysEnd
+pub mod NumbersSteps
+pub mod NumbersExamples

@@ -3,3 +3,4 @@ pub mod Pass
 pub mod Lists
 pub mod Rings
 pub mod Depths
+pub mod Numbers

@@ -1,0 +1,94 @@
+use Prim.Native.Nat.{ℕ, _<_, _*_, _+_}
+use borrow.Author.Needs.{needs}
+use borrow.Author.Tests.{not-true, not-false}
+use Rattle.sound_walks.proofs.NumbersSteps.{node-defect, node-blossom, ring-spent, ring-ends, ring-more}
+use borrow.Fn.Kinds.{In}
+use borrow.Fn.PlainCycle.{Measures, is, falls, and}
+use Rattle.sound_walks.proofs.numbers.number_node.Reads as number-node
+use Rattle.sound_walks.proofs.numbers.number_node.Kinds as number-node-kinds
+use Rattle.sound_walks.proofs.numbers.+number_node+number_ring.Lts-number_node as number-node-lts
+use Rattle.sound_walks.proofs.numbers.number_ring.Reads as number-ring
+use Rattle.sound_walks.proofs.numbers.number_ring.Kinds as number-ring-kinds
+use Rattle.sound_walks.proofs.numbers.+number_node+number_ring.Lts-number_ring as number-ring-lts
+use Rattle.sound_slots.proofs.numbers.set_number.Reads as set-number-reads
+use Rattle.sound_walks.proofs.numbers.is_next.Reads as is-next-reads
+use Rattle.std.proofs.num.wrapping_add_u16.Reads as wrapping-add-u16-reads
+use Rattle.table.proofs.field.get_first_blossom_child.Reads as get-first-blossom-child-reads
+use Rattle.table.proofs.field.is_blossom.Reads as is-blossom-reads
+use Rattle.table.proofs.field.sibling.Reads as sibling-reads
+use Rattle.sound_walks.proofs.numbers.+number_node+number_ring.{statement}
+use Rattle.sound_walks.proofs.numbers.+number_node+number_ring.Tie.{close}
+
+abbrev μ-number-node : Measures 3 number-node-kinds.ps ℕ
+μ-number-node κs a = 2 * a .1 .1 .1 .1 .1 .0 + 1
+
+abbrev μ-number-ring : Measures 3 number-ring-kinds.ps ℕ
+μ-number-ring κs a = 2 * a .1 .1 .1 .1 .1 .1 .0
+
+abbrev number-node-at : ℕ → In 3 number-node-kinds.ps
+number-node-at t =
+    and 3 number-node-kinds.ps (is 3 number-node-kinds.ps μ-number-node t) number-node.Pre
+
+abbrev number-node-below : ℕ → In 3 number-node-kinds.ps
+number-node-below t =
+    and 3 number-node-kinds.ps (falls 3 number-node-kinds.ps _<_ μ-number-node t) number-node.Pre
+
+abbrev number-ring-at : ℕ → In 3 number-ring-kinds.ps
+number-ring-at t =
+    and 3 number-ring-kinds.ps (is 3 number-ring-kinds.ps μ-number-ring t) number-ring.Pre
+
+abbrev number-ring-below : ℕ → In 3 number-ring-kinds.ps
+number-ring-below t =
+    and 3 number-ring-kinds.ps (falls 3 number-ring-kinds.ps _<_ μ-number-ring t) number-ring.Pre
+
+pub +number-node+number-ring-spec : {M : Type 1} → statement M
++number-node+number-ring-spec =
+    close μ-number-node μ-number-ring (λ t. number-node-lts.spec (
+      set-number-reads.Asked,
+      set-number-reads.Learnt,
+      is-blossom-reads.Asked,
+      is-blossom-reads.Learnt,
+      wrapping-add-u16-reads.Asked,
+      wrapping-add-u16-reads.Learnt,
+      get-first-blossom-child-reads.Asked,
+      get-first-blossom-child-reads.Learnt,
+      number-ring-below t,
+      number-ring.Post,
+    )
+    (number-node-at t)
+    number-node.Post
+    (λ c κs. search needs)
+    (λ c κs. search needs)
+    (λ c κs. search needs)
+    (λ c. search needs)
+    (λ c. node-defect _ _ _ _ _ _ _ (c .before .before .before .before .before .set-number .ensures) _ (c .before .before .is-blossom .ensures) _ (not-true _ (c .before .if1 .taken)) (c .wrapping-add-u16 .ensures))
+    (λ c κs. search needs)
+    (λ c κs. search needs)
+    (λ c κs. search needs)
+    (λ c. search needs)
+    (λ c. search needs)
+    (λ c. node-blossom _ _ _ _ _ _ _ (c .before .before .before .before .before .before .before .before .before .before .before .before .before .before .before .before .set-number .ensures) _ (c .before .before .before .before .before .before .before .before .before .before .before .before .before .is-blossom .ensures) _ _ _ _ _ (not-false _ (c .before .before .before .before .before .before .before .before .before .before .before .before .if1 .left)) (c .before .before .before .before .before .before .before .before .before .before .before .get-first-blossom-child .ensures) (c .before .before .before .before .before .before .before .before .number-ring .ensures) (c .before .before .set-number2 .ensures)))
+    λ t. number-ring-lts.spec (
+      is-next-reads.Asked,
+      is-next-reads.Learnt,
+      sibling-reads.Asked,
+      sibling-reads.Learnt,
+      number-node-below t,
+      number-node.Post,
+      number-ring-below t,
+      number-ring.Post,
+    )
+    (number-ring-at t)
+    number-ring.Post
+    (λ c. ring-spent _ _ _ _ _ (c .if1 .taken))
+    (λ c κs. search needs)
+    (λ c. search needs)
+    (λ c. ring-ends _ _ _ _ _ (c .before .is-next .ensures) _ (not-true _ (c .if2 .taken)))
+    (λ c κs. search needs)
+    (λ c. search needs)
+    (λ c κs. search needs)
+    (λ c. search needs)
+    (λ c κs. search needs)
+    (λ c. search needs)
+    (λ c. search needs)
+    (λ c. ring-more _ _ _ _ _ (c .before .before .before .before .before .before .before .before .before .before .before .before .before .before .before .before .is-next .ensures) _ _ _ _ (c .before .before .before .before .before .before .before .before .before .before .before .before .before .before .before .before .before .before .if1 .left) (not-false _ (c .before .before .before .before .before .before .before .before .before .before .before .before .before .before .before .if2 .left)) (c .before .before .before .before .before .before .before .before .before .before .before .before .before .before .sibling .ensures) (c .before .before .before .before .before .before .before .before .before .before .before .number-node .ensures) (c .before .before .before .before .number-ring .ensures))

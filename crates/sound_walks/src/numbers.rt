@@ -1,0 +1,83 @@
+// Numbers for what is inside blossoms (S8), from each outer blossom down: a defect gets the next number; the first of a blossom's
+// stretch stands in `lo` and one past its last in `hi`. 0 stands for none. The touches are then judged without a climb.
+//
+// A ring is walked up to a node that is not its blossom's or has a number already. So no node is entered twice, and the work is
+// linear for any words; what no outer blossom holds, as blossoms whose parents form a circle, gets no number.
+use slot::Node;
+use sound_slots::numbers::number_of;
+use sound_slots::numbers::set_number;
+use sound_slots::truth::both;
+use table::Table;
+ghost use mathlib.Core.Path.{_≡_};
+ghost use Prim.Native.Nat.{_+_, _-_, _%_, _^_};
+ghost use Rattle.table.specs.Words.{tableOf};
+ghost use Rattle.sound_walks.specs.Numbers.{numbersOf, isNext, ringNumbered, nodeNumbered, outerNumbered, outersNumbered};
+
+// A node of b's ring that has no number yet.
+fn is_next(t: &Table, lo: &[u16], b: Node, n: Node) -> bool
+    ensures { λ r. ⌜ r ≡ isNext (tableOf (now (t .entry))) (now (lo .entry)) (b .0) (n .0) ⌝ }
+{
+    let inner = table::field::is_inner(t, n);
+    let above = table::field::parent(t, n);
+    let number = number_of(lo, n);
+    both(both(inner, above.0 == b.0), number == 0)
+}
+
+// The ring of b from n on. Gives the next number, as all here do.
+fn number_ring(
+    t: &Table,
+    lo: &mut [u16],
+    hi: &mut [u16],
+    b: Node,
+    n: Node,
+    k: u16,
+    left: u32,
+) -> u16
+    ensures { λ r. ⌜ numbersOf (now (lo .exit)) (now (hi .exit)) r ≡ ringNumbered left (tableOf (now (t .entry))) (b .0) (n .0) (numbersOf (now (lo .entry)) (now (hi .entry)) k) ⌝ }
+{
+    if left == 0 {
+        return k;
+    }
+    if !is_next(t, lo, b, n) {
+        return k;
+    }
+    let after = table::field::sibling(t, n);
+    let next = number_node(t, lo, hi, n, k, left - 1);
+    number_ring(t, lo, hi, b, after, next, left - 1)
+}
+
+// A node and what is inside it.
+fn number_node(t: &Table, lo: &mut [u16], hi: &mut [u16], n: Node, k: u16, left: u32) -> u16
+    ensures { λ r. ⌜ numbersOf (now (lo .exit)) (now (hi .exit)) r ≡ nodeNumbered left (tableOf (now (t .entry))) (n .0) (numbersOf (now (lo .entry)) (now (hi .entry)) k) ⌝ }
+{
+    set_number(lo, n, k);
+    if !table::field::is_blossom(t, n) {
+        return std::num::wrapping_add_u16(k, 1);
+    }
+    let first = table::field::get_first_blossom_child(t, n);
+    let end = number_ring(t, lo, hi, n, first, k, left);
+    set_number(hi, n, end);
+    end
+}
+
+fn number_outer(t: &Table, lo: &mut [u16], hi: &mut [u16], n: Node, k: u16) -> u16
+    ensures { λ r. ⌜ numbersOf (now (lo .exit)) (now (hi .exit)) r ≡ outerNumbered (tableOf (now (t .entry))) (n .0) (numbersOf (now (lo .entry)) (now (hi .entry)) k) ⌝ }
+{
+    if !table::field::is_outer(t, n) {
+        return k;
+    }
+    number_node(t, lo, hi, n, k, 65536)
+}
+
+// The outer ones of the slots from one number to before another.
+pub fn number_outers(t: &Table, lo: &mut [u16], hi: &mut [u16], from: u16, to: u16) -> u16
+    ensures { λ r. ⌜ numbersOf (now (lo .exit)) (now (hi .exit)) r ≡ outersNumbered (tableOf (now (t .entry))) (to - from) from (numbersOf (now (lo .entry)) (now (hi .entry)) 1) ⌝ }
+{
+    let mut k: u16 = 1;
+    let mut i = from;
+    while i < to {
+        k = number_outer(t, lo, hi, Node(i), k);
+        i += 1;
+    }
+    k
+}
