@@ -20,8 +20,8 @@ use Rattle.table.proofs.TableLaws.{at-out}
 use Rattle.table.specs.Nodes.{present, outer, inner}
 use Rattle.rules.specs.Slots.{isNone, sameLink, up}
 use Rattle.rules.specs.Walk.{ends}
-use Rattle.rules.specs.Sound.{_⇒_, S5, S6, S7, sizesHold, isBare, ringHolds, s5, s6, s7, sound}
-use Rattle.theorems_soundness.specs.Facts.{Sizes, Given}
+use Rattle.rules.specs.Sound.{_⇒_, S5, S6, S7, sizesHold, isDefectInside, isBare, ringHolds, s5, s6, s7, sound}
+use Rattle.theorems_soundness.specs.Facts.{Sizes, Given, Rest}
 use Rattle.theorems_soundness.specs.FactsOfBlossoms.{PresentBlossom}
 use Rattle.theorems_soundness.proofs.Reflect.{tests, true-test, test-true, test-false, and→, imp→, eqb-no}
 use Rattle.theorems_soundness.proofs.ReflectSlots.{sameLink↔, outer-present, inner-present, outer-not-inner}
@@ -41,9 +41,10 @@ use Rattle.sound_walks.proofs.Truth.{lie, bool-ext, and-left, and-right, and-bo
 use Rattle.sound_walks.proofs.SoundChildrenPaths as list-walks
 use Rattle.sound_walks.proofs.SoundRingsPaths as ring-walks
 use Rattle.sound_walks.proofs.WaysEnd.{wayFine, way-skips, ways-right, way-ringed, way-listed, way-reaches, way-from}
-use Rattle.sound.specs.Given.{unseen, eachHolds, givenPass, blossomPass, pathsHold}
+use Rattle.sound.specs.Given.{unseen, eachHolds, numbersFrom, heldIn, numberedHold, givenPass, blossomPass, pathsHold}
 use Rattle.sound.proofs.SlotKinds.{undamaged, inner-child, inner-childless}
-use Rattle.sound.proofs.SlotsSound.{all-sound}
+use Rattle.sound.proofs.SlotsSound.{inners, ring, all-sound}
+use Rattle.sound.proofs.InsideByNumbers.{numbers-right, numbers-complete, held-defect}
 use Rattle.sound.proofs.SlotTests.{slot-test, vacant-test}
 use Rattle.sound.proofs.Whole.{given-whole, blossoms-whole}
 
@@ -67,9 +68,9 @@ vacant→ t n h = go (at t n .state) refl h
     go S.Shrink e h = absurd h
     go S.Damaged e h = absurd h
 
-judged-empty→ : (t : Table) (n : ℕ) → T (slotHolds t n) → at t n .state ≡ S.Empty → at t n ≡ emptySlot
+judged-empty→ : (t : Table) (held : ℕ → ℕ → Bool) (n : ℕ) → T (slotHolds t held n) → at t n .state ≡ S.Empty → at t n ≡ emptySlot
 unfolding slotHolds
-judged-empty→ t n h e = bare→ (at t n) e (rw e at (and→ (ringPlaced t n (at t n .ring)) (ruleOf (at t n .state) t n (at t n)) h .1))
+judged-empty→ t held n h e = bare→ (at t n) e (rw e at (and→ (ringPlaced t n (at t n .ring)) (ruleOf (at t n .state) t held n (at t n)) h .1))
 
 module _ (ws : List ℕ) where
   abbrev tab : Table
@@ -87,6 +88,13 @@ module _ (ws : List ℕ) where
 
   abbrev e : ℕ
   e = tab .begin + tab .blossoms
+
+  -- the numbers of insides, and the test of touches by them
+  abbrev held : ℕ → ℕ → Bool
+  held = heldIn tab (numbersFrom tab b e)
+
+  defect : (x n : ℕ) → T (held x n) → n < tab .begin
+  defect = held-defect tab (numbersFrom tab b e)
 
   pub sizes-fail : sizesHold tab ≡ false → false ≡ sound tab
   sizes-fail h =
@@ -114,30 +122,39 @@ module _ (ws : List ℕ) where
       after-ungiven n p (inl u) = omega (arith, few)
       after-ungiven n p (inr u) = omega (arith, u .1)
 
-      each-from : eachHolds tab d b e ≡ true
+      rest : Rest tab
+      rest = sound→rest tab full s
+
+      outward : (x n : ℕ) → T (isDefectInside tab x n) → T (held x n)
+      outward = numbers-complete tab full sized (rest .undamaged) (rest .given) (rest .inners) (rest .rings)
+
+      passes : (n : ℕ) → T (slotHolds tab held n)
+      passes = slot-test tab full s held outward
+
+      each-from : eachHolds tab held d b e ≡ true
       unfolding eachHolds
       each-from =
-          let p = range-from (slotHolds tab) (d - 0) 0 (λ j _ _. test-true (slotHolds tab j) (slot-test tab full s j)) in
-          let q = range-from (isVacant tab) (b - d) d (λ j l m. let f = few in test-true (isVacant tab j) (vacant-test tab full s j (between-ungiven j l (omega arith)))) in
-          let r = range-from (slotHolds tab) (e - b) b (λ j _ _. test-true (slotHolds tab j) (slot-test tab full s j)) in
-          let v = range-from (isVacant tab) (256 - e) e (λ j l _. test-true (isVacant tab j) (vacant-test tab full s j (after-ungiven j l))) in
+          let p = range-from (slotHolds tab held) (d - 0) 0 (λ j _ _. test-true (slotHolds tab held j) (passes j)) in
+          let q = range-from (isVacant tab) (b - d) d (λ j l m. let f = few in test-true (isVacant tab j) (vacant-test tab full s held outward j (between-ungiven j l (omega arith)))) in
+          let r = range-from (slotHolds tab held) (e - b) b (λ j _ _. test-true (slotHolds tab held j) (passes j)) in
+          let v = range-from (isVacant tab) (256 - e) e (λ j l _. test-true (isVacant tab j) (vacant-test tab full s held outward j (after-ungiven j l))) in
           rw (p, q, r, v)
 
-    pub each-fail : eachHolds tab d b e ≡ false → false ≡ sound tab
+    pub each-fail : eachHolds tab held d b e ≡ false → false ≡ sound tab
     each-fail h = bool-ext false (sound tab) (λ u. lie u) (λ u. sym h ∙ each-from (true-test (sound tab) u))
 
     -- ---- what the tests of the slots say
 
-    module _ (each : eachHolds tab d b e ≡ true) where
-      parts : (allFrom (slotHolds tab) (d - 0) 0 ≡ true) × (allFrom (isVacant tab) (b - d) d ≡ true) × (allFrom (slotHolds tab) (e - b) b ≡ true) × (allFrom (isVacant tab) (256 - e) e ≡ true)
+    module _ (each : eachHolds tab held d b e ≡ true) where
+      parts : (allFrom (slotHolds tab held) (d - 0) 0 ≡ true) × (allFrom (isVacant tab) (b - d) d ≡ true) × (allFrom (slotHolds tab held) (e - b) b ≡ true) × (allFrom (isVacant tab) (256 - e) e ≡ true)
       unfolding eachHolds
       parts =
-          let h = and-left (allFrom (slotHolds tab) (d - 0) 0 && allFrom (isVacant tab) (b - d) d && allFrom (slotHolds tab) (e - b) b) (allFrom (isVacant tab) (256 - e) e) each in
-          let k = and-left (allFrom (slotHolds tab) (d - 0) 0 && allFrom (isVacant tab) (b - d) d) (allFrom (slotHolds tab) (e - b) b) h in (
-            and-left (allFrom (slotHolds tab) (d - 0) 0) (allFrom (isVacant tab) (b - d) d) k,
-            and-right (allFrom (slotHolds tab) (d - 0) 0) (allFrom (isVacant tab) (b - d) d) k,
-            and-right (allFrom (slotHolds tab) (d - 0) 0 && allFrom (isVacant tab) (b - d) d) (allFrom (slotHolds tab) (e - b) b) h,
-            and-right (allFrom (slotHolds tab) (d - 0) 0 && allFrom (isVacant tab) (b - d) d && allFrom (slotHolds tab) (e - b) b) (allFrom (isVacant tab) (256 - e) e) each,
+          let h = and-left (allFrom (slotHolds tab held) (d - 0) 0 && allFrom (isVacant tab) (b - d) d && allFrom (slotHolds tab held) (e - b) b) (allFrom (isVacant tab) (256 - e) e) each in
+          let k = and-left (allFrom (slotHolds tab held) (d - 0) 0 && allFrom (isVacant tab) (b - d) d) (allFrom (slotHolds tab held) (e - b) b) h in (
+            and-left (allFrom (slotHolds tab held) (d - 0) 0) (allFrom (isVacant tab) (b - d) d) k,
+            and-right (allFrom (slotHolds tab held) (d - 0) 0) (allFrom (isVacant tab) (b - d) d) k,
+            and-right (allFrom (slotHolds tab held) (d - 0) 0 && allFrom (isVacant tab) (b - d) d) (allFrom (slotHolds tab held) (e - b) b) h,
+            and-right (allFrom (slotHolds tab held) (d - 0) 0 && allFrom (isVacant tab) (b - d) d && allFrom (slotHolds tab held) (e - b) b) (allFrom (isVacant tab) (256 - e) e) each,
           )
 
       between : (n : ℕ) → d ≤ n → n < b → at tab n ≡ emptySlot
@@ -147,27 +164,27 @@ module _ (ws : List ℕ) where
       after n p q = vacant→ tab n (true-test (isVacant tab n) (range-to (isVacant tab) (256 - e) e n (parts .3) p (omega arith)))
 
       -- given out and judged, or empty
-      place : (n : ℕ) → (Given tab n × T (slotHolds tab n)) ⊎ (at tab n ≡ emptySlot)
+      place : (n : ℕ) → (Given tab n × T (slotHolds tab held n)) ⊎ (at tab n ≡ emptySlot)
       place n = go (decLt n d) (decLt n b) (decLt n e) (decLt n 256)
         where
-          go : Dec (n < d) → Dec (n < b) → Dec (n < e) → Dec (n < 256) → (Given tab n × T (slotHolds tab n)) ⊎ (at tab n ≡ emptySlot)
-          go (yes u) v w x = inl (inl u, true-test (slotHolds tab n) (range-to (slotHolds tab) (d - 0) 0 n (parts .0) (omega arith) (omega arith)))
+          go : Dec (n < d) → Dec (n < b) → Dec (n < e) → Dec (n < 256) → (Given tab n × T (slotHolds tab held n)) ⊎ (at tab n ≡ emptySlot)
+          go (yes u) v w x = inl (inl u, true-test (slotHolds tab held n) (range-to (slotHolds tab held) (d - 0) 0 n (parts .0) (omega arith) (omega arith)))
           go (no u) (yes v) w x = inr (between n (omega arith) v)
-          go (no u) (no v) (yes w) x = inl (inr (omega arith, w), true-test (slotHolds tab n) (range-to (slotHolds tab) (e - b) b n (parts .2) (omega arith) (omega arith)))
+          go (no u) (no v) (yes w) x = inl (inr (omega arith, w), true-test (slotHolds tab held n) (range-to (slotHolds tab held) (e - b) b n (parts .2) (omega arith) (omega arith)))
           go (no u) (no v) (no w) (yes x) = inr (after n (omega arith) x)
           go (no u) (no v) (no w) (no x) = inr (at-out tab n full (omega arith))
 
       absent : (n : ℕ) → at tab n ≡ emptySlot → ¬ T (present tab n)
       absent n z p = rw z at p
 
-      judged : (n : ℕ) → T (present tab n) → T (slotHolds tab n)
+      judged : (n : ℕ) → T (present tab n) → T (slotHolds tab held n)
       judged n p = elim (place n) [ inl u ↦ u .1 | inr z ↦ absurd (absent n z p) ]
 
       given : (n : ℕ) → T (present tab n) → Given tab n
       given n p = elim (place n) [ inl u ↦ u .0 | inr z ↦ absurd (absent n z p) ]
 
       empty : (n : ℕ) → at tab n .state ≡ S.Empty → at tab n ≡ emptySlot
-      empty n h = elim (place n) [ inl u ↦ judged-empty→ tab n (u .1) h | inr z ↦ z ]
+      empty n h = elim (place n) [ inl u ↦ judged-empty→ tab held n (u .1) h | inr z ↦ z ]
 
       -- only outer nodes have children
       bare : (n : ℕ) → outer tab n ≡ false → at tab n .firstChild ≡ none
@@ -175,11 +192,11 @@ module _ (ws : List ℕ) where
         where
           go : (x : State) → at tab n .state ≡ x → isOuter x ≡ false → at tab n .firstChild ≡ none
           go S.Empty h o = ap (λ (s : Slot). s .firstChild) (empty n h)
-          go S.Inner h o = inner-childless tab full sized judged empty n (rw h tt)
+          go S.Inner h o = inner-childless tab full sized held defect judged empty n (rw h tt)
           go S.Stay h o = lie (sym o)
           go S.Grow h o = lie (sym o)
           go S.Shrink h o = lie (sym o)
-          go S.Damaged h o = absurd (undamaged tab full sized judged empty n h)
+          go S.Damaged h o = absurd (undamaged tab full sized held defect judged empty n h)
 
       -- so a pass over the slots given out is a pass over all
       lists-whole : givenPass (listStep tab) d b e ≡ sweep (listStep tab) 256 0 unseen
@@ -249,7 +266,7 @@ module _ (ws : List ℕ) where
         inner-marked : (j : ℕ) → j < 256 → inner tab j ≡ true → marked (ringed .seen) j ≡ true
         inner-marked j q i =
             way-ringed tab (listed .seen) (ringed .seen) j (fine-at j q)
-            (eqb-no (up tab j) none (inner-child tab full sized judged empty j (true-test (inner tab j) i))) i
+            (eqb-no (up tab j) none (inner-child tab full sized held defect judged empty j (true-test (inner tab j) i))) i
 
         rings : (n : ℕ) → PresentBlossom tab n → T (ringHolds tab n)
         rings n p =
@@ -268,8 +285,16 @@ module _ (ws : List ℕ) where
             let q = present-below tab full n (outer-present (at tab n .state) o) in
             true-test (ends 257 (up tab) n) (way-reaches tab (listed .seen) (ringed .seen) n (fine-at n q) (outer-only n (test-true (outer tab n) o)))
 
+        inward : (x n : ℕ) → T (held x n) → T (isDefectInside tab x n)
+        inward =
+            numbers-right tab full sized (undamaged tab full sized held defect judged empty) given
+            (inners tab full sized held defect judged empty given owner lists rings ways)
+            (ring tab full sized held defect judged empty given owner lists rings ways)
+
         check-sound : sound tab ≡ true
-        check-sound = test-true (sound tab) (all-sound tab full sized judged empty given owner lists rings ways)
+        check-sound =
+            test-true (sound tab)
+            (all-sound tab full sized held defect judged empty given owner lists rings ways inward)
 
       -- ---- and on a sound table they succeed
 
@@ -301,7 +326,7 @@ module _ (ws : List ℕ) where
             go S.Stay h i = rw h tt
             go S.Grow h i = rw h tt
             go S.Shrink h i = rw h tt
-            go S.Damaged h i = absurd (undamaged tab full sized judged empty n h)
+            go S.Damaged h i = absurd (undamaged tab full sized held defect judged empty n h)
 
         on-list : (n : ℕ) → n < 256 → isNone (up tab n) ≡ false → inner tab n ≡ false → (marked (listed .seen) n ≡ true) × (ends 257 (up tab) n ≡ true)
         on-list n q u i =
@@ -335,9 +360,11 @@ module _ (ws : List ℕ) (x : Bool) (p : x ≡ sizesHold (tableOf ws)) where
     pub end-fits : begin + blossoms ≤ 256
     end-fits = rw (v, w) (end-below ws (sym p ∙ f))
 
-    module _ (y : Bool) (q : y ≡ eachHolds (tableOf ws) defects begin (begin + blossoms)) where
+    module _ (y : Bool) (q : y ≡ numberedHold (tableOf ws) defects begin (begin + blossoms)) where
       pub each-no : y ≡ false → false ≡ sound (tableOf ws)
+      unfolding numberedHold
       each-no h = each-fail ws (sym p ∙ f) (rw (u, v, w) at (sym q ∙ h))
 
       pub paths-answer : (z : Bool) → y ≡ true → z ≡ pathsHold (tableOf ws) defects begin (begin + blossoms) → z ≡ sound (tableOf ws)
+      unfolding numberedHold
       paths-answer z h k = (rw (u, v, w) at k) ∙ paths-decide ws (sym p ∙ f) (rw (u, v, w) at (sym q ∙ h))

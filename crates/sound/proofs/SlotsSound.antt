@@ -1,8 +1,8 @@
 -- The tests of single slots, with what the walks find, are the rules.
 use mathlib.Core.Path.{_≡_, refl}
 use mathlib.Core.Logic.{_≢_}
-use mathlib.Core.Bool.{_&&_}
-use Prim.Native.Nat.{ℕ}
+use mathlib.Core.Bool.{Bool, _&&_}
+use Prim.Native.Nat.{ℕ, _<_}
 use lib.Dec.{T}
 use Rattle.slot.specs.declared.state.State.{State}
 use Rattle.slot.specs.declared.state.State.the-variants as S
@@ -12,7 +12,7 @@ use Rattle.table.specs.Table.{Table, at, Full}
 use Rattle.table.specs.Nodes.{isBlossom, present, outer, inner}
 use Rattle.rules.specs.Slots.{isNone, isFull, up, next}
 use Rattle.rules.specs.Walk.{ends}
-use Rattle.rules.specs.Sound.{_⇒_, Rule, S1, S2, S3, S4, S5, S6, S7, S8, holds, ringHolds, s5, s6, sound}
+use Rattle.rules.specs.Sound.{_⇒_, Rule, S1, S2, S3, S4, S5, S6, S7, S8, holds, ringHolds, isDefectInside, s5, s6, sound}
 use Rattle.theorems_soundness.specs.Facts.{Sizes, Given, Names, Pointers, Core}
 use Rattle.theorems_soundness.specs.FactsOfNodes.{Kind, free-node, virtual-node, paired-node, root-node, minus-node, plus-node, OuterChild}
 use Rattle.theorems_soundness.specs.FactsOfBlossoms.{PresentBlossom, Ring, InBlossom}
@@ -29,8 +29,9 @@ use Rattle.theorems_soundness.proofs.RingLaws.{ring-first, ring-next}
 use Rattle.sound.specs.OneSlot.{slotHolds}
 use Rattle.sound.proofs.SlotKinds.{kind, undamaged, ring-owner, inner-child, in-blossom, touches}
 
-module _ (t : Table) (full : Full t) (sizes : Sizes t)
-    (judged : (n : ℕ) → T (present t n) → T (slotHolds t n))
+module _ (t : Table) (full : Full t) (sizes : Sizes t) (held : ℕ → ℕ → Bool)
+    (defect : (x n : ℕ) → T (held x n) → n < t .begin)
+    (judged : (n : ℕ) → T (present t n) → T (slotHolds t held n))
     (empty : (n : ℕ) → at t n .state ≡ S.Empty → at t n ≡ emptySlot)
     (given : (n : ℕ) → T (present t n) → Given t n)
     (owner : (n : ℕ) → T (inner t n) → up t n ≢ none → PresentBlossom t (up t n))
@@ -42,10 +43,10 @@ module _ (t : Table) (full : Full t) (sizes : Sizes t)
     first n o d = let k = s5→children t full n (lists n) o in k .exact (at t n .firstChild) .0 (chain-start (next t) (at t n .firstChild) (k .list) (k .chain) d)
 
     kinds : (n : ℕ) → T (outer t n) → Kind t n
-    kinds = kind t full sizes judged empty first
+    kinds = kind t full sizes held defect judged empty first
 
-    inners : (n : ℕ) → T (inner t n) → InBlossom t n
-    inners n i = in-blossom t full sizes judged empty n i (owner n i (inner-child t full sizes judged empty n i))
+    pub inners : (n : ℕ) → T (inner t n) → InBlossom t n
+    inners n i = in-blossom t full sizes held defect judged empty n i (owner n i (inner-child t full sizes held defect judged empty n i))
 
     sixth : (n : ℕ) → T (s6 t n)
     unfolding s6
@@ -63,7 +64,7 @@ module _ (t : Table) (full : Full t) (sizes : Sizes t)
           upward = λ n o. s7→upward t full n (facts→s7 t full n (ways n) (inners n)) o;
         }
 
-    ring : (n : ℕ) → PresentBlossom t n → Ring t n
+    pub ring : (n : ℕ) → PresentBlossom t n → Ring t n
     ring n = s6→ring t full n (sixth n)
 
     -- ---- S2
@@ -77,7 +78,7 @@ module _ (t : Table) (full : Full t) (sizes : Sizes t)
     -- a blossom's first blossom child
     ring-named : (n : ℕ) → Names t (at t n .ring)
     ring-named n d =
-        let b = ring-owner t full sizes judged empty n d in
+        let b = ring-owner t full sizes held defect judged empty n d in
         let r = ring n b in
         inner-here (at t n .ring) (r .exact (at t n .ring) .0 (ring-first t n r) .0)
 
@@ -126,17 +127,20 @@ module _ (t : Table) (full : Full t) (sizes : Sizes t)
         go S.Stay e = outer-pointers n (rw e tt)
         go S.Grow e = outer-pointers n (rw e tt)
         go S.Shrink e = outer-pointers n (rw e tt)
-        go S.Damaged e = absurd (undamaged t full sizes judged empty n e)
+        go S.Damaged e = absurd (undamaged t full sizes held defect judged empty n e)
 
-    rule : (r : Rule) (n : ℕ) → T (holds r t n)
-    rule S1 n = →s1 t n (record { sizes = λ _. sizes; undamaged = undamaged t full sizes judged empty n; given = given n; bare = empty n; ring-owner = ring-owner t full sizes judged empty n })
-    rule S2 n = pointers↔ t n .1 (pointers n)
-    rule S3 n = kind→s3 t n full (kinds n)
-    rule S4 n = kind→s4 t n (kinds n)
-    rule S5 n = lists n
-    rule S6 n = sixth n
-    rule S7 n = facts→s7 t full n (ways n) (inners n)
-    rule S8 n = touches t full sizes judged empty n
+    -- ---- all rules, where the test of touches says what is inside, as rings and inner nodes tell
 
-    pub all-sound : T (sound t)
-    all-sound = rule→sound t (λ r n _. rule r n)
+    module _ (inward : (x n : ℕ) → T (held x n) → T (isDefectInside t x n)) where
+      rule : (r : Rule) (n : ℕ) → T (holds r t n)
+      rule S1 n = →s1 t n (record { sizes = λ _. sizes; undamaged = undamaged t full sizes held defect judged empty n; given = given n; bare = empty n; ring-owner = ring-owner t full sizes held defect judged empty n })
+      rule S2 n = pointers↔ t n .1 (pointers n)
+      rule S3 n = kind→s3 t n full (kinds n)
+      rule S4 n = kind→s4 t n (kinds n)
+      rule S5 n = lists n
+      rule S6 n = sixth n
+      rule S7 n = facts→s7 t full n (ways n) (inners n)
+      rule S8 n = touches t full sizes held defect judged empty inward n
+
+      pub all-sound : T (sound t)
+      all-sound = rule→sound t (λ r n _. rule r n)

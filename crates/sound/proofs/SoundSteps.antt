@@ -4,34 +4,45 @@ use mathlib.Core.List.{List}
 use mathlib.Core.Bool.{Bool, true, false}
 use Prim.Native.Nat.{ℕ, _-_}
 use Rattle.table.specs.Table.{Table}
+use Rattle.sound_slots.specs.Links.{isHeld}
 use Rattle.sound_walks.specs.Pass.{allFrom}
+use Rattle.sound_walks.specs.Numbers.{numbersOf, outersNumbered}
 use Rattle.sound.specs.OneSlot.{slotHolds, isVacant}
 use Rattle.sound_walks.specs.Marks.{Judged, judgedOf, sweep}
 use Rattle.sound_walks.specs.Lists.{listStep}
 use Rattle.sound_walks.specs.Rings.{ringStep}
 use Rattle.sound_walks.specs.Depths.{wayStep}
-use Rattle.sound.specs.Given.{unseen, eachHolds, givenPass, blossomPass, pathsHold}
+use Rattle.sound.specs.Given.{unseen, eachHolds, numbersFrom, numberedHold, givenPass, blossomPass, pathsHold}
 
 -- ---- each slot by itself
 
-module _ (t : Table) (d b e : ℕ) (w : Bool) (p : w ≡ allFrom (slotHolds t) (d - 0) 0) where
-  pub defects-fail : w ≡ false → false ≡ eachHolds t d b e
+module _ (t : Table) (held : ℕ → ℕ → Bool) (d b e : ℕ) (w : Bool) (p : w ≡ allFrom (slotHolds t held) (d - 0) 0) where
+  pub defects-fail : w ≡ false → false ≡ eachHolds t held d b e
   unfolding eachHolds
   defects-fail h = rw (← p, h)
 
   module _ (f : w ≡ true) (x : Bool) (q : x ≡ allFrom (isVacant t) (b - d) d) where
-    pub gap-fails : x ≡ false → false ≡ eachHolds t d b e
+    pub gap-fails : x ≡ false → false ≡ eachHolds t held d b e
     unfolding eachHolds
     gap-fails h = rw (← p, f, ← q, h)
 
-    module _ (g : x ≡ true) (y : Bool) (r : y ≡ allFrom (slotHolds t) (e - b) b) where
-      pub blossoms-fail : y ≡ false → false ≡ eachHolds t d b e
+    module _ (g : x ≡ true) (y : Bool) (r : y ≡ allFrom (slotHolds t held) (e - b) b) where
+      pub blossoms-fail : y ≡ false → false ≡ eachHolds t held d b e
       unfolding eachHolds
       blossoms-fail h = rw (← p, f, ← q, g, ← r, h)
 
-      pub end-decides : (z : Bool) → y ≡ true → z ≡ allFrom (isVacant t) (256 - e) e → z ≡ eachHolds t d b e
+      pub end-decides : (z : Bool) → y ≡ true → z ≡ allFrom (isVacant t) (256 - e) e → z ≡ eachHolds t held d b e
       unfolding eachHolds
       end-decides z h s = s ∙ rw (← p, f, ← q, g, ← r, h)
+
+-- with the numbers that were given
+pub numbers-decide :
+    (t : Table) (d b e : ℕ) (lo hi : List ℕ) (k : ℕ) (r : Bool)
+    → numbersOf lo hi k ≡ outersNumbered t (e - b) b (numbersOf unseen unseen 1)
+    → r ≡ eachHolds t (isHeld t lo hi) d b e
+    → r ≡ numberedHold t d b e
+unfolding numberedHold numbersFrom
+numbers-decide t d b e lo hi k r p q = q ∙ rw (← p)
 
 -- ---- passes
 

@@ -5,7 +5,9 @@ use mathlib.Core.List.{List}
 use lib.ListN.{replicate}
 use Rattle.lists.specs.Choice.{pick}
 use Rattle.table.specs.Table.{Table}
+use Rattle.sound_slots.specs.Links.{isHeld}
 use Rattle.sound_walks.specs.Pass.{allFrom}
+use Rattle.sound_walks.specs.Numbers.{Numbers, numbersOf, outersNumbered}
 use Rattle.sound.specs.OneSlot.{slotHolds, isVacant}
 use Rattle.sound_walks.specs.Marks.{Judged, sweep}
 use Rattle.sound_walks.specs.Lists.{listStep}
@@ -16,12 +18,22 @@ abbrev pub unseen : List ℕ
 unseen = replicate 256 0
 
 -- each slot by itself
-unfoldable pub eachHolds : Table → ℕ → ℕ → ℕ → Bool
-eachHolds t d b e =
-    allFrom (slotHolds t) (d - 0) 0
+unfoldable pub eachHolds : Table → (ℕ → ℕ → Bool) → ℕ → ℕ → ℕ → Bool
+eachHolds t held d b e =
+    allFrom (slotHolds t held) (d - 0) 0
     && allFrom (isVacant t) (b - d) d
-    && allFrom (slotHolds t) (e - b) b
+    && allFrom (slotHolds t held) (e - b) b
     && allFrom (isVacant t) (256 - e) e
+
+-- the numbers of insides, from the outer ones of the blossoms given out
+unfoldable pub numbersFrom : Table → ℕ → ℕ → Numbers
+numbersFrom t b e = outersNumbered t (e - b) b (numbersOf unseen unseen 1)
+
+abbrev pub heldIn : Table → Numbers → ℕ → ℕ → Bool
+heldIn t w = isHeld t (w .lo) (w .hi)
+
+unfoldable pub numberedHold : Table → ℕ → ℕ → ℕ → Bool
+numberedHold t d b e = eachHolds t (heldIn t (numbersFrom t b e)) d b e
 
 unfoldable pub givenPass : (ℕ → List ℕ → Judged) → ℕ → ℕ → ℕ → Judged
 givenPass step d b e =
