@@ -5,11 +5,13 @@ use mathlib.Core.Bool.{Bool, true, false, _&&_}
 use Prim.Native.Nat.{ℕ, zero, suc, _+_, _-_, _%_, _^_, _≤_, _<_}
 use native.Mathlib.Numerals.{add-one}
 use lib.Dec.{eqb}
+use borrow.Author.Tests.{eq-eqb, ne-eqb}
 use lib.ListN.{getD, set}
+use Rattle.lists.specs.Choice.{pick}
 use Rattle.lists.proofs.Budget.{fewer, one-left, none-left}
 use Rattle.table.specs.Table.{Table, at}
 use Rattle.table.specs.Nodes.{isBlossom, outer, inner}
-use Rattle.sound_walks.specs.Numbers.{Numbers, numbersOf, isNext, nodeBy, ringNumbered, nodeNumbered, outerNumbered, outersNumbered}
+use Rattle.sound_walks.specs.Numbers.{Numbers, numbersOf, isNext, isOddRing, nodeBy, onward, ringFrom, ringNumbered, nodeNumbered, outerNumbered, outersNumbered}
 
 pub next-step :
     (t : Table) (l : List ℕ) (b n above number : ℕ) (inside owned r : Bool)
@@ -40,32 +42,61 @@ module _ (t : Table) (n k left : ℕ) (lo hi m : List ℕ) (f : m ≡ set lo n k
 
 -- ---- a ring
 
-module _ (t : Table) (b n : ℕ) (w : Numbers) where
-  pub ring-spent : (left : ℕ) → left ≡ 0 → w ≡ ringNumbered left t b n w
-  unfolding ringNumbered
+pub ring-closed : (c k : ℕ) (b : Bool) → b ≡ isOddRing c → b ≡ true → k ≡ pick (isOddRing c) k 0
+ring-closed c k b e h = let u : isOddRing c ≡ true = sym e ∙ h in rw u
+
+pub ring-even : (c k : ℕ) (b : Bool) → b ≡ isOddRing c → b ≡ false → 0 ≡ pick (isOddRing c) k 0
+ring-even c k b e h = let u : isOddRing c ≡ false = sym e ∙ h in rw u
+
+module _ (t : Table) (b first n c : ℕ) (lo hi : List ℕ) (k : ℕ) where
+  pub ring-spent : (left : ℕ) → left ≡ 0 → numbersOf lo hi 0 ≡ ringFrom left t b first n c (numbersOf lo hi k)
+  unfolding ringFrom
   ring-spent left e = rw e
 
-  module _ (g : Bool) (e : g ≡ isNext t (w .lo) b n) where
-    pub ring-ends : (left : ℕ) → g ≡ false → w ≡ ringNumbered left t b n w
-    unfolding ringNumbered
-    ring-ends zero h = refl
-    ring-ends (suc left) h = let u : isNext t (w .lo) b n ≡ false = sym e ∙ h in rw u
+  module _ (g : Bool) (e : g ≡ isNext t lo b n) where
+    pub ring-alien : (left : ℕ) → g ≡ false → numbersOf lo hi 0 ≡ ringFrom left t b first n c (numbersOf lo hi k)
+    unfolding ringFrom
+    ring-alien zero h = refl
+    ring-alien (suc left) h = let u : isNext t lo b n ≡ false = sym e ∙ h in rw u
 
-    pub ring-more :
-        (left after : ℕ) (v u : Numbers)
-        → (left ≡ 0 → ⊥)
+    -- after a node, as the code goes on
+    stepped :
+        (left : ℕ) (v : Numbers)
         → g ≡ true
-        → after ≡ at t n .sibling
-        → v ≡ nodeNumbered (left - 1) t n w
-        → u ≡ ringNumbered (left - 1) t b after v
-        → u ≡ ringNumbered left t b n w
-    unfolding ringNumbered
-    ring-more zero after v u z h p q r = absurd (z refl)
-    ring-more (suc left) after v u z h p q r =
-        let i : isNext t (w .lo) b n ≡ true = sym e ∙ h in
-        let q′ = rw (fewer left) at q in
-        let r′ = rw (fewer left) at r in
-        r′ ∙ rw (i, ← p, ← q′)
+        → v ≡ nodeNumbered left t n (numbersOf lo hi k)
+        → onward t first n (c + 1) v (ringFrom left t b first (at t n .sibling) (c + 1) v) ≡ ringFrom (suc left) t b first n c (numbersOf lo hi k)
+    unfolding ringFrom
+    stepped left v h q = let u : isNext t lo b n ≡ true = sym e ∙ h in rw (u, q)
+
+    module _ (h : g ≡ true) (after : ℕ) (p : after ≡ at t n .sibling) (l m : List ℕ) (r : ℕ) where
+      pub ring-fails : (left : ℕ) → (left ≡ 0 → ⊥) → numbersOf l m r ≡ nodeNumbered (left - 1) t n (numbersOf lo hi k) → r ≡ 0 → numbersOf l m 0 ≡ ringFrom left t b first n c (numbersOf lo hi k)
+      ring-fails zero z q f = absurd (z refl)
+      ring-fails (suc left) z q f = rw (eq-eqb r 0 f, f) at (stepped left (numbersOf l m r) h (rw (fewer left) at q))
+
+      module _ (some : r ≡ 0 → ⊥) where
+        pub ring-back :
+            (left count end : ℕ)
+            → (left ≡ 0 → ⊥)
+            → numbersOf l m r ≡ nodeNumbered (left - 1) t n (numbersOf lo hi k)
+            → after ≡ first
+            → count ≡ c + 1
+            → end ≡ pick (isOddRing count) r 0
+            → numbersOf l m end ≡ ringFrom left t b first n c (numbersOf lo hi k)
+        ring-back zero count end z q f v u = absurd (z refl)
+        ring-back (suc left) count end z q f v u =
+            let s : eqb (at t n .sibling) first ≡ true = eq-eqb (at t n .sibling) first (sym p ∙ f) in
+            rw (u, v) (rw (ne-eqb r 0 some, s) at (stepped left (numbersOf l m r) h (rw (fewer left) at q)))
+
+        pub ring-more :
+            (left : ℕ)
+            → (left ≡ 0 → ⊥)
+            → numbersOf l m r ≡ nodeNumbered (left - 1) t n (numbersOf lo hi k)
+            → (after ≡ first → ⊥)
+            → ringFrom (left - 1) t b first after (c + 1) (numbersOf l m r) ≡ ringFrom left t b first n c (numbersOf lo hi k)
+        ring-more zero z q f = absurd (z refl)
+        ring-more (suc left) z q f =
+            let s : eqb (at t n .sibling) first ≡ false = ne-eqb (at t n .sibling) first (λ i. f (p ∙ i)) in
+            rw (fewer left, p) (rw (ne-eqb r 0 some, s) at (stepped left (numbersOf l m r) h (rw (fewer left) at q)))
 
 -- ---- the outer nodes
 
@@ -79,11 +110,16 @@ module _ (t : Table) (i : ℕ) (w : Numbers) where
     unfolding outerNumbered
     outer-some v h q = let u : outer t i ≡ true = sym e ∙ h in q ∙ rw u
 
-  module _ (to : ℕ) where
-    pub outers-end : to ≤ i → w ≡ outersNumbered t (to - i) i w
-    unfolding outersNumbered
-    outers-end h = rw (none-left i to h)
+module _ (t : Table) (i to : ℕ) (w : Numbers) where
+  pub outers-end : to ≤ i → w ≡ outersNumbered t (to - i) i w
+  unfolding outersNumbered
+  outers-end h = rw (none-left i to h)
 
-    pub outers-more : (v : Numbers) → i < to → v ≡ outerNumbered t i w → outersNumbered t (to - (i + 1)) (i + 1) v ≡ outersNumbered t (to - i) i w
+  module _ (l m : List ℕ) (k : ℕ) (h : i < to) (q : numbersOf l m k ≡ outerNumbered t i w) where
+    pub outers-stop : k ≡ 0 → numbersOf l m 0 ≡ outersNumbered t (to - i) i w
     unfolding outersNumbered
-    outers-more v h q = rw (one-left i to h, q, add-one)
+    outers-stop z = rw (one-left i to h, ← q, z)
+
+    pub outers-more : (k ≡ 0 → ⊥) → outersNumbered t (to - (i + 1)) (i + 1) (numbersOf l m k) ≡ outersNumbered t (to - i) i w
+    unfolding outersNumbered
+    outers-more z = rw (one-left i to h, ← q, ne-eqb k 0 z, add-one)

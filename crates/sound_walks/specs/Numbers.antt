@@ -1,10 +1,10 @@
 -- Numbers for what is inside blossoms, given from each outer blossom down, its ring walked once: a defect gets the next number, a
 -- blossom has a stretch, which begins with the next number and ends before the one that is next when its ring is done. That the
--- numbers of a stretch are those of the defects inside is proved in the crate `sound`.
+-- rings are those of S6, and the numbers of a stretch those of the defects inside, is proved in the crate `sound`.
 use Prim.Native.Nat.{ℕ, zero, suc, _+_, _%_, _^_}
-use mathlib.Core.Bool.{Bool, _&&_}
+use mathlib.Core.Bool.{Bool, not, _&&_}
 use mathlib.Core.List.{List}
-use lib.Dec.{eqb}
+use lib.Dec.{eqb, leb}
 use lib.ListN.{getD, set}
 use Rattle.lists.specs.Choice.{pick}
 use Rattle.table.specs.Table.{Table, at}
@@ -32,24 +32,46 @@ begun n w = numbersOf (set (w .lo) n (w .free)) (w .hi) (w .free)
 abbrev pub ended : ℕ → Numbers → Numbers
 ended n w = numbersOf (w .lo) (set (w .hi) n (w .free)) (w .free)
 
+abbrev pub isNumbered : List ℕ → ℕ → Bool
+isNumbered l n = not (eqb (getD l n 0) 0)
+
 -- n is a node of b's ring that has no number yet
 abbrev pub isNext : Table → List ℕ → ℕ → ℕ → Bool
 isNext t l b n = isInnerChild t b n && eqb (getD l n 0) 0
 
--- n and what is inside it; `ring` numbers the ring of a blossom from a node on
+-- n and what is inside it; `ring` numbers the ring of a blossom
 unfoldable pub nodeBy : (ℕ → ℕ → Numbers → Numbers) → Table → ℕ → Numbers → Numbers
 nodeBy ring t n w =
     let stretch = ended n (ring n (at t n .ring) (begun n w)) in
     let number = counted n w in
     pick (isBlossom t n) stretch number
 
--- the ring of b from n on, up to a node that is not its own or has a number, as the first has in the end; k bounds the calls, and
--- each enters a node
-unfoldable pub ringNumbered : ℕ → Table → ℕ → ℕ → Numbers → Numbers
-ringNumbered zero t b n w = w
-ringNumbered (suc k) t b n w =
-    let rest = ringNumbered k t b (next t n) (nodeBy (ringNumbered k t) t n w) in
-    pick (isNext t (w .lo) b n) rest w
+-- "odd, at least 3"
+abbrev pub isOddRing : ℕ → Bool
+isOddRing c = eqb (c % 2) 1 && leb 3 c
+
+-- 0 is no number: a ring that is none leaves it as the next one
+abbrev pub broken : Numbers → Numbers
+broken w = numbersOf (w .lo) (w .hi) 0
+
+-- back at the first node, after c of them
+abbrev pub closed : ℕ → Numbers → Numbers
+closed c w = numbersOf (w .lo) (w .hi) (pick (isOddRing c) (w .free) 0)
+
+-- after n, the c-th node: the end, or the rest of the ring
+abbrev pub onward : Table → ℕ → ℕ → ℕ → Numbers → Numbers → Numbers
+onward t first n c v rest = pick (eqb (v .free) 0) v (pick (eqb (next t n) first) (closed c v) rest)
+
+-- the ring of b from n on, where c nodes were before, and back to the first (S6); k bounds the calls, and each enters a node
+unfoldable pub ringFrom : ℕ → Table → ℕ → ℕ → ℕ → ℕ → Numbers → Numbers
+ringFrom zero t b first n c w = broken w
+ringFrom (suc k) t b first n c w =
+    let v = nodeBy (λ a f. ringFrom k t a f f 0) t n w in
+    let more = onward t first n (c + 1) v (ringFrom k t b first (next t n) (c + 1) v) in
+    pick (isNext t (w .lo) b n) more (broken w)
+
+abbrev pub ringNumbered : ℕ → Table → ℕ → ℕ → Numbers → Numbers
+ringNumbered k t b first w = ringFrom k t b first first 0 w
 
 abbrev pub nodeNumbered : ℕ → Table → ℕ → Numbers → Numbers
 nodeNumbered k t n w = nodeBy (ringNumbered k t) t n w
@@ -58,7 +80,10 @@ nodeNumbered k t n w = nodeBy (ringNumbered k t) t n w
 unfoldable pub outerNumbered : Table → ℕ → Numbers → Numbers
 outerNumbered t i w = let node = nodeNumbered 65536 t i w in pick (outer t i) node w
 
--- the outer ones of k slots, from i on
+-- the outer ones of k slots, from i on, up to one with a ring that is none
 unfoldable pub outersNumbered : Table → ℕ → ℕ → Numbers → Numbers
 outersNumbered t zero i w = w
-outersNumbered t (suc k) i w = outersNumbered t k (suc i) (outerNumbered t i w)
+outersNumbered t (suc k) i w =
+    let v = outerNumbered t i w in
+    let rest = outersNumbered t k (suc i) v in
+    pick (eqb (v .free) 0) v rest

@@ -1,8 +1,8 @@
-// Numbers for what is inside blossoms (S8), from each outer blossom down: a defect gets the next number; the first of a blossom's
-// stretch stands in `lo` and one past its last in `hi`. 0 stands for none. The touches are then judged without a climb.
+// Rings, and numbers for what is inside blossoms (S6, S8), from each outer blossom down: a defect gets the next number; the first of a
+// blossom's stretch stands in `lo` and one past its last in `hi`. 0 stands for none. The touches are then judged without a climb.
 //
-// A ring is walked up to a node that is not its blossom's or has a number already. So no node is entered twice, and the work is
-// linear for any words; what no outer blossom holds, as blossoms whose parents form a circle, gets no number.
+// Each function gives the next number, and 0 where a ring is none. No node is entered twice, so the work is linear for any words; what
+// no outer blossom holds, as blossoms whose parents form a circle, gets no number.
 use slot::Node;
 use sound_slots::numbers::number_of;
 use sound_slots::numbers::set_number;
@@ -10,8 +10,9 @@ use sound_slots::truth::both;
 use table::Table;
 ghost use mathlib.Core.Path.{_≡_};
 ghost use Prim.Native.Nat.{_+_, _-_, _%_, _^_};
+ghost use Rattle.lists.specs.Choice.{pick};
 ghost use Rattle.table.specs.Words.{tableOf};
-ghost use Rattle.sound_walks.specs.Numbers.{numbersOf, isNext, ringNumbered, nodeNumbered, outerNumbered, outersNumbered};
+ghost use Rattle.sound_walks.specs.Numbers.{numbersOf, isNext, isOddRing, ringNumbered, nodeNumbered, outerNumbered, outersNumbered};
 
 // A node of b's ring that has no number yet.
 fn is_next(t: &Table, lo: &[u16], b: Node, n: Node) -> bool
@@ -23,27 +24,57 @@ fn is_next(t: &Table, lo: &[u16], b: Node, n: Node) -> bool
     both(both(inner, above.0 == b.0), number == 0)
 }
 
-// The ring of b from n on. Gives the next number, as all here do.
+// Odd, at least 3.
+fn is_odd_ring(count: u32) -> bool
+    ensures { λ r. ⌜ r ≡ isOddRing count ⌝ }
+{
+    both(count % 2 == 1, 3 <= count)
+}
+
+fn closed(count: u32, k: u16) -> u16
+    ensures { λ r. ⌜ r ≡ pick (isOddRing count) k 0 ⌝ }
+{
+    if is_odd_ring(count) {
+        return k;
+    }
+    0
+}
+
+// The ring of b: its nodes and what is inside them, from the first along siblings until it is the next again.
 fn number_ring(
     t: &Table,
     lo: &mut [u16],
     hi: &mut [u16],
     b: Node,
-    n: Node,
+    first: Node,
     k: u16,
-    left: u32,
+    budget: u32,
 ) -> u16
-    ensures { λ r. ⌜ numbersOf (now (lo .exit)) (now (hi .exit)) r ≡ ringNumbered left (tableOf (now (t .entry))) (b .0) (n .0) (numbersOf (now (lo .entry)) (now (hi .entry)) k) ⌝ }
+    ensures { λ r. ⌜ numbersOf (now (lo .exit)) (now (hi .exit)) r ≡ ringNumbered budget (tableOf (now (t .entry))) (b .0) (first .0) (numbersOf (now (lo .entry)) (now (hi .entry)) k) ⌝ }
 {
-    if left == 0 {
-        return k;
+    let mut here = first;
+    let mut next = k;
+    let mut left = budget;
+    let mut count: u32 = 0;
+    loop {
+        if left == 0 {
+            return 0;
+        }
+        if !is_next(t, lo, b, here) {
+            return 0;
+        }
+        let after = table::field::sibling(t, here);
+        next = number_node(t, lo, hi, here, next, left - 1);
+        if next == 0 {
+            return 0;
+        }
+        left -= 1;
+        count += 1;
+        if after.0 == first.0 {
+            return closed(count, next);
+        }
+        here = after;
     }
-    if !is_next(t, lo, b, n) {
-        return k;
-    }
-    let after = table::field::sibling(t, n);
-    let next = number_node(t, lo, hi, n, k, left - 1);
-    number_ring(t, lo, hi, b, after, next, left - 1)
 }
 
 // A node and what is inside it.
@@ -77,6 +108,9 @@ pub fn number_outers(t: &Table, lo: &mut [u16], hi: &mut [u16], from: u16, to: u
     let mut i = from;
     while i < to {
         k = number_outer(t, lo, hi, Node(i), k);
+        if k == 0 {
+            return 0;
+        }
         i += 1;
     }
     k

@@ -1,7 +1,11 @@
 use Prim.Native.Nat.{ℕ, _<_, _*_, _+_}
+use mathlib.Core.Path.{_≡_, refl, _∙_}
+use lib.ListN.{length}
+use Rattle.table.specs.Words.{tableOf}
+use Rattle.sound_walks.specs.Numbers.{numbersOf, ringFrom}
 use borrow.Author.Needs.{needs}
 use borrow.Author.Tests.{not-true, not-false}
-use Rattle.sound_walks.proofs.NumbersSteps.{node-defect, node-blossom, ring-spent, ring-ends, ring-more}
+use Rattle.sound_walks.proofs.NumbersSteps.{node-defect, node-blossom, ring-spent, ring-alien, ring-fails, ring-back, ring-more}
 use borrow.Fn.Kinds.{In}
 use borrow.Fn.PlainCycle.{Measures, is, falls, and}
 use Rattle.sound_walks.proofs.numbers.number_node.Reads as number-node
@@ -11,6 +15,7 @@ use Rattle.sound_walks.proofs.numbers.number_ring.Reads as number-ring
 use Rattle.sound_walks.proofs.numbers.number_ring.Kinds as number-ring-kinds
 use Rattle.sound_walks.proofs.numbers.+number_node+number_ring.Lts-number_ring as number-ring-lts
 use Rattle.sound_slots.proofs.numbers.set_number.Reads as set-number-reads
+use Rattle.sound_walks.proofs.numbers.closed.Reads as closed-reads
 use Rattle.sound_walks.proofs.numbers.is_next.Reads as is-next-reads
 use Rattle.std.proofs.num.wrapping_add_u16.Reads as wrapping-add-u16-reads
 use Rattle.table.proofs.field.get_first_blossom_child.Reads as get-first-blossom-child-reads
@@ -40,6 +45,14 @@ number-ring-at t =
 abbrev number-ring-below : ℕ → In 3 number-ring-kinds.ps
 number-ring-below t =
     and 3 number-ring-kinds.ps (falls 3 number-ring-kinds.ps _<_ μ-number-ring t) number-ring.Pre
+
+abbrev number-ring-Inv-loop : number-ring-lts.InvT-loop
+number-ring-Inv-loop t lo₀ hi₀ b first k budget here₀ next₀ left₀ count₀ lo hi here next left count =
+    (ringFrom left (tableOf t) (b .0) (first .0) (here .0) count (numbersOf lo hi next) ≡ ringFrom left₀ (tableOf t) (b .0) (first .0) (here₀ .0) count₀ (numbersOf lo₀ hi₀ next₀))
+    × ((length lo ≡ length lo₀) × ((length hi ≡ length hi₀) × (count + left ≡ count₀ + left₀)))
+
+abbrev number-ring-μ-loop : number-ring-lts.MeasureT-loop
+number-ring-μ-loop t lo₀ hi₀ b first k budget here₀ next₀ left₀ count₀ lo hi here next left count = left
 
 pub +number-node+number-ring-spec : {M : Type 1} → statement M
 +number-node+number-ring-spec =
@@ -75,20 +88,32 @@ pub +number-node+number-ring-spec : {M : Type 1} → statement M
       sibling-reads.Learnt,
       number-node-below t,
       number-node.Post,
-      number-ring-below t,
-      number-ring.Post,
+      closed-reads.Asked,
+      closed-reads.Learnt,
     )
     (number-ring-at t)
     number-ring.Post
-    (λ c. ring-spent _ _ _ _ _ (c .if1 .taken))
+    number-ring-Inv-loop
+    number-ring-μ-loop
+    (λ c. (refl, (refl, (refl, refl))))
+    (λ c. search needs)
+    (λ c. search needs)
+    (λ c. ring-spent _ _ _ _ _ _ _ _ _ (c .if1 .taken) ∙ (c .before .loop .inv .0))
     (λ c κs. search needs)
     (λ c. search needs)
-    (λ c. ring-ends _ _ _ _ _ (c .before .is-next .ensures) _ (not-true _ (c .if2 .taken)))
+    (λ c. search needs)
+    (λ c. ring-alien _ _ _ _ _ _ _ _ _ (c .before .is-next .ensures) _ (not-true _ (c .if2 .taken)) ∙ (c .before .before .before .before .loop .inv .0))
     (λ c κs. search needs)
     (λ c. search needs)
     (λ c κs. search needs)
     (λ c. search needs)
+    (λ c. search needs)
+    (λ c. ring-fails _ _ _ _ _ _ _ _ _ (c .before .before .before .before .before .before .before .before .before .before .is-next .ensures) (not-false _ (c .before .before .before .before .before .before .before .before .before .if2 .left)) _ (c .before .before .before .before .before .before .before .before .sibling .ensures) _ _ _ _ (c .before .before .before .before .before .before .before .before .before .before .before .before .if1 .left) (c .before .before .before .before .before .number-node .ensures) (c .if3 .taken) ∙ (c .before .before .before .before .before .before .before .before .before .before .before .before .before .loop .inv .0))
+    (λ c. search needs)
+    (λ c. search needs)
     (λ c κs. search needs)
     (λ c. search needs)
     (λ c. search needs)
-    (λ c. ring-more _ _ _ _ _ (c .before .before .before .before .before .before .before .before .before .before .before .before .before .before .before .before .is-next .ensures) _ _ _ _ (c .before .before .before .before .before .before .before .before .before .before .before .before .before .before .before .before .before .before .if1 .left) (not-false _ (c .before .before .before .before .before .before .before .before .before .before .before .before .before .before .before .if2 .left)) (c .before .before .before .before .before .before .before .before .before .before .before .before .before .before .sibling .ensures) (c .before .before .before .before .before .before .before .before .before .before .before .number-node .ensures) (c .before .before .before .before .number-ring .ensures))
+    (λ c. ring-back _ _ _ _ _ _ _ _ _ (c .before .before .before .before .before .before .before .before .before .before .before .before .before .before .is-next .ensures) (not-false _ (c .before .before .before .before .before .before .before .before .before .before .before .before .before .if2 .left)) _ (c .before .before .before .before .before .before .before .before .before .before .before .before .sibling .ensures) _ _ _ (c .before .before .before .before .if3 .left) _ _ _ (c .before .before .before .before .before .before .before .before .before .before .before .before .before .before .before .before .if1 .left) (c .before .before .before .before .before .before .before .before .before .number-node .ensures) (c .before .if4 .taken) refl (c .closed .ensures) ∙ (c .before .before .before .before .before .before .before .before .before .before .before .before .before .before .before .before .before .loop .inv .0))
+    (λ c. search needs)
+    (λ c. (ring-more _ _ _ _ _ _ _ _ _ (c .before .before .before .before .before .before .before .before .before .before .before .before .before .is-next .ensures) (not-false _ (c .before .before .before .before .before .before .before .before .before .before .before .before .if2 .left)) _ (c .before .before .before .before .before .before .before .before .before .before .before .sibling .ensures) _ _ _ (c .before .before .before .if3 .left) _ (c .before .before .before .before .before .before .before .before .before .before .before .before .before .before .before .if1 .left) (c .before .before .before .before .before .before .before .before .number-node .ensures) (c .if4 .left) ∙ (c .before .before .before .before .before .before .before .before .before .before .before .before .before .before .before .before .loop .inv .0), (search needs, (search needs, search needs))))

@@ -4,7 +4,7 @@ use Prim.Native.Nat.{_-_}
 use lib.ListN.{length}
 use Rattle.table.specs.Words.{tableOf}
 use Rattle.sound_walks.specs.Numbers.{numbersOf, outersNumbered}
-use Rattle.sound_walks.proofs.NumbersSteps.{outers-end, outers-more}
+use Rattle.sound_walks.proofs.NumbersSteps.{outers-end, outers-stop, outers-more}
 use Rattle.sound_walks.proofs.numbers.number_outers.Statement.{statement}
 use Rattle.sound_walks.proofs.numbers.number_outers.Tie as tie
 
@@ -24,7 +24,10 @@ number-outers-spec =
     (λ c κs. search needs)
     (λ c. search needs)
     (λ c. search needs)
-    (λ c. (outers-more _ _ _ _ _ (c .before .before .before .before .before .before .before .loop-test .taken) (c .before .before .before .before .number-outer .ensures) ∙ (c .before .before .before .before .before .before .before .before .loop .inv .0), (search needs, search needs)))
+    (λ c. outers-stop _ _ _ _ _ _ _ (c .before .before .before .before .before .before .before .before .loop-test .taken) (c .before .before .before .before .before .number-outer .ensures) (c .if1 .taken) ∙ (c .before .before .before .before .before .before .before .before .before .loop .inv .0))
+    (λ c. search needs)
+    (λ c. search needs)
+    (λ c. (outers-more _ _ _ _ _ _ _ (c .before .before .before .before .before .before .before .before .loop-test .taken) (c .before .before .before .before .before .number-outer .ensures) (c .if1 .left) ∙ (c .before .before .before .before .before .before .before .before .before .loop .inv .0), (search needs, search needs)))
     (λ c. search needs)
     (λ c. search needs)
     (λ c. outers-end _ _ _ _ (c .loop-test .left) ∙ (c .before .loop .inv .0)))
