@@ -3,8 +3,10 @@ use mathlib.Core.Path.{_≡_, refl, ap, _∙_}
 use mathlib.Core.List.{List, [], _∷_}
 use Prim.Native.Nat.{ℕ, zero, suc, _+_, _%_, _^_, _≤_, _<_}
 use native.Mathlib.Omega.{arith}
-use lib.ListN.{length, getD, set, length-set}
+use native.Mathlib.Decide.{decLt}
+use lib.ListN.{length, getD, set, length-set, length-replicate, getD-replicate, List·getD-eq-default}
 use Rattle.sound_walks.specs.Numbers.{Numbers, counted, begun, ended}
+use Rattle.sound.specs.Given.{unseen}
 
 -- the places of a list that are not 0
 abbrev pub filled : List ℕ → ℕ
@@ -57,3 +59,11 @@ module _ (w : Numbers) (f : Fits w) where
 
   pub ended-fits : (n : ℕ) → Fits (ended n w)
   ended-fits n = record { places = f .places; ends = length-set (w .hi) n (w .free) ∙ f .ends; some = f .some; few = f .few }
+
+-- before the first
+pub blank : (y : ℕ) → getD unseen y 0 ≡ 0
+blank y =
+    elim (decLt y 256) [
+      | yes l ↦ getD-replicate {A = ℕ} 256 y 0 0 l
+      | no g ↦ let h : length unseen ≤ y = rw length-replicate (omega arith) in List·getD-eq-default unseen 0 h
+    ]

@@ -2,35 +2,36 @@
 -- exactly if it is x or its number lies in x's stretch.
 use mathlib.Core.Path.{_≡_, refl, sym, ap, _∙_}
 use mathlib.Core.Logic.{_≢_, _⊎_, inl, inr}
-use mathlib.Core.Bool.{Bool, true, false, _&&_, _||_, and-false}
+use mathlib.Core.Bool.{Bool, true, false, _&&_, _||_}
 use mathlib.Core.List.{List, [], _∷_}
-use Prim.Native.Nat.{ℕ, zero, suc, _+_, _*_, _-_, _≤_, _<_}
+use Prim.Native.Nat.{ℕ, zero, suc, _+_, _*_, _-_, _%_, _≤_, _<_}
 use native.Mathlib.Decide.{decLt}
 use native.Mathlib.Omega.{arith}
 use lib.Dec.{T, T-not, eqb, leb, ltb, eqb→eq}
-use lib.ListN.{length, getD, length-replicate, getD-replicate, List·getD-eq-default}
+use lib.ListN.{length, length-replicate}
 use lib.Seq.{getD-set-other}
-use borrow.Author.Tests.{le-leb, lt-leb}
+use borrow.Author.Tests.{eq-eqb, le-leb, lt-leb}
 use Rattle.slot.specs.declared.state.State.the-variants as S
+use Rattle.slot.specs.Number.{none}
 use Rattle.table.specs.Table.{Table, at, Full}
 use Rattle.table.specs.Nodes.{isDefect, present, outer, inner}
 use Rattle.table.specs.Climb.{inside}
 use Rattle.rules.specs.Slots.{up, next}
-use Rattle.rules.specs.Sound.{isDefectInside}
-use Rattle.theorems_soundness.specs.Chain.{_∈_, NoDup}
+use Rattle.rules.specs.Sound.{nextInRing, isDefectInside}
+use Rattle.theorems_soundness.specs.Chain.{_∈_, NoDup, Chain}
 use Rattle.theorems_soundness.specs.Facts.{Sizes, Given}
 use Rattle.theorems_soundness.specs.FactsOfBlossoms.{PresentBlossom, InnerChild, Ring, InBlossom, Inside}
-use Rattle.theorems_soundness.proofs.Reflect.{tests, test-true, test-false, test-case, eq→eqb, eqb-yes, eqb-no, same-or-not, and→, →and, or→, →or}
-use Rattle.theorems_soundness.proofs.ReflectSlots.{outer-present, inner-present}
+use Rattle.theorems_soundness.proofs.Reflect.{tests, test-true, test-false, test-case, eq→eqb, eqb-yes, eqb-no, not-eqb↔, same-or-not, and→, →and, or→, →or}
+use Rattle.theorems_soundness.proofs.ReflectSlots.{outer-present, inner-present, outer-not-inner}
 use Rattle.theorems_soundness.proofs.Past.{present-below}
 use Rattle.theorems_soundness.proofs.Climbing.{inside→, →inside}
-use Rattle.theorems_soundness.proofs.RingLaws.{ring-first, ring-once}
+use Rattle.theorems_soundness.proofs.RingLaws.{ring-once, ring-goes-on}
 use Rattle.theorems_soundness.proofs.InsideLaws.{inside-self, inside-ring-node, inside-join, inside-ring, one-outer}
 use Rattle.sound_slots.specs.Links.{isHeld}
-use Rattle.sound_walks.specs.Numbers.{Numbers, numbersOf, begun, ended, isNext, nodeBy, ringNumbered, nodeNumbered, outerNumbered, outersNumbered}
-use Rattle.sound.specs.Given.{unseen, numbersFrom, heldIn}
-use Rattle.sound.proofs.Nests.{Nest, ring-node-lower, not-above, one-ring-node, holder-blossom, home, Way, ring-way, ring-short}
-use Rattle.sound.proofs.Filled.{Fits, begun-fits}
+use Rattle.sound_walks.specs.Numbers.{Numbers, numbersOf, begun, ended, isNext, isOddRing, nodeBy, ringFrom, nodeNumbered, outerNumbered, outersNumbered}
+use Rattle.sound.specs.Given.{unseen, numbersFrom, heldIn, numberedIn}
+use Rattle.sound.proofs.Nests.{Nest, ring-node-lower, not-above, one-ring-node, holder-blossom, home, ring-short, comes-back, goes-on}
+use Rattle.sound.proofs.Filled.{Fits, blank, begun-fits}
 use Rattle.sound.proofs.Stretches.{numberIn, endIn, Between, Covers, covers-none, covers-same, covers-joined, covers-defect, covers-blossom}
 
 module _ (t : Table) (full : Full t) (nest : Nest t) where
@@ -42,16 +43,16 @@ module _ (t : Table) (full : Full t) (nest : Nest t) where
 
   abbrev RingCovers : ℕ → Type 0
   RingCovers k =
-      (b first n : ℕ) (cs : List ℕ) (w : Numbers)
-      → Way (next t) n cs first
-      → ((c : ℕ) → c ∈ cs → InnerChild t b c)
-      → NoDup cs
-      → ((c : ℕ) → c ∈ cs → length cs + 256 * nest .rank c ≤ k)
-      → InnerChild t b first
-      → (¬ (first ∈ cs) → 1 ≤ numberIn w first)
+      (b first n c d : ℕ) (ds : List ℕ) (w : Numbers)
+      → Chain (nextInRing t first) n (d ∷ ds)
+      → ((j : ℕ) → j ∈ (d ∷ ds) → next t j ≢ none)
+      → ((j : ℕ) → j ∈ (d ∷ ds) → InnerChild t b j)
+      → NoDup (d ∷ ds)
+      → ((j : ℕ) → j ∈ (d ∷ ds) → length (d ∷ ds) + 256 * nest .rank j ≤ k)
+      → isOddRing (c + length (d ∷ ds)) ≡ true
       → Fits w
-      → ((y : ℕ) → Within cs y → numberIn w y ≡ 0)
-      → Covers t (Within cs) w (ringNumbered k t b n w)
+      → ((y : ℕ) → Within (d ∷ ds) y → numberIn w y ≡ 0)
+      → Covers t (Within (d ∷ ds)) w (ringFrom k t b first n c w)
 
   module _ (k : ℕ) (ih : RingCovers k) (n : ℕ) (w : Numbers) (budget : 256 * nest .rank n ≤ k) (h : T (present t n)) (f : Fits w) (un : (y : ℕ) → Inside t n y → numberIn w y ≡ 0) where
     below : n < 256
@@ -76,15 +77,33 @@ module _ (t : Table) (full : Full t) (nest : Nest t) where
       still-bare : (y : ℕ) → Within (ring .list) y → numberIn (begun n w) y ≡ 0
       still-bare y s = getD-set-other (w .lo) n y (w .free) 0 (λ e. outside (rw e at s)) ∙ un y (inward y s)
 
-      around : Covers t (Within (ring .list)) (begun n w) (ringNumbered k t n (at t n .ring) (begun n w))
-      around =
-          let m = ring-first t n ring in
-          ih n (at t n .ring) (at t n .ring) (ring .list) (begun n w) (ring-way t n ring) (λ c. ring .exact c .0) (ring-once t n ring)
-          (λ c m. omega (arith, ring-short t n ring full, ring-node-lower t nest n c (ring .exact c .0 m), budget))
-          (ring .exact (at t n .ring) .0 m) (λ d. absurd (d m)) (begun-fits w f n below bare) still-bare
+      odd : isOddRing (0 + length (ring .list)) ≡ true
+      odd =
+          let z : 0 + length (ring .list) ≡ length (ring .list) = omega arith in
+          rw z (rw (eq-eqb (length (ring .list) % 2) 1 (ring .odd), le-leb 3 (length (ring .list)) (ring .at-least-three)))
 
-      stretch : Covers t (Inside t n) w (ended n (ringNumbered k t n (at t n .ring) (begun n w)))
-      stretch = covers-blossom t nest n w f below bare (ringNumbered k t n (at t n .ring) (begun n w)) (Within (ring .list)) around b outside within inward
+      around : Covers t (Within (ring .list)) (begun n w) (ringFrom k t n (at t n .ring) (at t n .ring) 0 (begun n w))
+      around =
+          go (ring .list) (ring .chain) (ring .closes) (λ j. ring .exact j .0) (ring-once t n ring)
+          (λ j m. omega (arith, ring-short t n ring full, ring-node-lower t nest n j (ring .exact j .0 m), budget))
+          odd still-bare (ring .at-least-three)
+        where
+          go :
+              (cs : List ℕ)
+              → Chain (nextInRing t (at t n .ring)) (at t n .ring) cs
+              → ((j : ℕ) → j ∈ cs → next t j ≢ none)
+              → ((j : ℕ) → j ∈ cs → InnerChild t n j)
+              → NoDup cs
+              → ((j : ℕ) → j ∈ cs → length cs + 256 * nest .rank j ≤ k)
+              → isOddRing (0 + length cs) ≡ true
+              → ((y : ℕ) → Within cs y → numberIn (begun n w) y ≡ 0)
+              → 3 ≤ length cs
+              → Covers t (Within cs) (begun n w) (ringFrom k t n (at t n .ring) (at t n .ring) 0 (begun n w))
+          go [] p s m o u q z l = absurd (omega arith)
+          go (d ∷ ds) p s m o u q z l = ih n (at t n .ring) (at t n .ring) 0 d ds (begun n w) p s m o u q (begun-fits w f n below bare) z
+
+      stretch : Covers t (Inside t n) w (ended n (ringFrom k t n (at t n .ring) (at t n .ring) 0 (begun n w)))
+      stretch = covers-blossom t nest n w f below bare (ringFrom k t n (at t n .ring) (at t n .ring) 0 (begun n w)) (Within (ring .list)) around b outside within inward
 
     node-covers : Covers t (Inside t n) w (nodeNumbered k t n w)
     unfolding nodeBy
@@ -94,83 +113,94 @@ module _ (t : Table) (full : Full t) (nest : Nest t) where
           | no g ↦ let b : t .begin ≤ n = omega arith in rw (le-leb (t .begin) n b) (stretch b)
         ]
 
-  -- a ring's next node: entered where it has no number, else the end
+  -- a ring's next node
   enters : (b c : ℕ) (w : Numbers) → InnerChild t b c → numberIn w c ≡ 0 → isNext t (w .lo) b c ≡ true
   enters b c w i z = rw (test-true (inner t c) (i .0), eqb-yes (up t c) b (i .1), eqb-yes (numberIn w c) 0 z)
 
-  passes : (b n : ℕ) (w : Numbers) → 1 ≤ numberIn w n → isNext t (w .lo) b n ≡ false
-  passes b n w l = rw (eqb-no (numberIn w n) 0 (λ z. omega arith), and-false)
+  unbroken : (w : Numbers) → Fits w → eqb (w .free) 0 ≡ false
+  unbroken w f = eqb-no (w .free) 0 (λ z. omega (arith, f .some))
 
-  module _ (k : ℕ) (ih : RingCovers k) (b first c : ℕ) (cs : List ℕ) (w : Numbers)
-      (way : Way (next t) (next t c) cs first)
-      (mine : (d : ℕ) → d ∈ (c ∷ cs) → InnerChild t b d)
-      (once : NoDup (c ∷ cs))
-      (budget : (d : ℕ) → d ∈ (c ∷ cs) → length (c ∷ cs) + 256 * nest .rank d ≤ suc k)
-      (at-first : InnerChild t b first)
-      (known : ¬ (first ∈ (c ∷ cs)) → 1 ≤ numberIn w first)
+  module _ (k : ℕ) (ih : RingCovers k) (b first c d : ℕ) (ds : List ℕ) (w : Numbers)
+      (chain : Chain (nextInRing t first) (nextInRing t first d) ds)
+      (closes : (j : ℕ) → j ∈ (d ∷ ds) → next t j ≢ none)
+      (mine : (j : ℕ) → j ∈ (d ∷ ds) → InnerChild t b j)
+      (once : NoDup (d ∷ ds))
+      (budget : (j : ℕ) → j ∈ (d ∷ ds) → length (d ∷ ds) + 256 * nest .rank j ≤ suc k)
+      (odd : isOddRing (c + length (d ∷ ds)) ≡ true)
       (f : Fits w)
-      (un : (y : ℕ) → Within (c ∷ cs) y → numberIn w y ≡ 0)
+      (un : (y : ℕ) → Within (d ∷ ds) y → numberIn w y ≡ 0)
     where
-      own : InnerChild t b c
-      own = mine c (inl refl)
+      own : InnerChild t b d
+      own = mine d (inl refl)
 
-      head : Covers t (Inside t c) w (nodeNumbered k t c w)
+      entered : isNext t (w .lo) b d ≡ true
+      entered = enters b d w own (un d (d, inl refl, inside-self t d))
+
+      head : Covers t (Inside t d) w (nodeNumbered k t d w)
       head =
-          node-covers k ih c w (omega (arith, budget c (inl refl))) (inner-present (at t c .state) (own .0)) f
-          (λ y i. un y (c, inl refl, i))
+          node-covers k ih d w (omega (arith, budget d (inl refl))) (inner-present (at t d .state) (own .0)) f
+          (λ y i. un y (d, inl refl, i))
 
-      apart : (y : ℕ) → Inside t c y → ¬ Within cs y
-      apart y i s = once .0 (rw (one-ring-node t nest b c (s .0) y own (mine (s .0) (inr (s .1))) i (s .2)) (s .1))
+      from : (y j : ℕ) → j ∈ (d ∷ ds) → Inside t j y → Inside t d y ⊎ Within ds y
+      from y j (inl e) i = inl (rw e at i)
+      from y j (inr m) i = inr (j, m, i)
 
-      first-known : ¬ (first ∈ cs) → 1 ≤ numberIn (nodeNumbered k t c w) first
-      first-known d =
-          elim (same-or-not first c) [
-            | inl e ↦ let q = head .begins c (inside-self t c) .0 in rw e (omega (arith, q, f .some))
-            | inr m ↦
-                let z = head .elsewhere first (λ i. m (sym (one-ring-node t nest b c first first own at-first i (inside-self t first)))) .0 in
-                let q : 1 ≤ numberIn w first = known (λ s. elim s [ inl e ↦ m e | inr r ↦ d r ]) in
-                omega (arith, z, q)
-          ]
-
-      tail : Covers t (Within cs) (nodeNumbered k t c w) (ringNumbered k t b (next t c) (nodeNumbered k t c w))
-      tail =
-          ih b first (next t c) cs (nodeNumbered k t c w) way (λ d m. mine d (inr m)) (once .1)
-          (λ d m. omega (arith, budget d (inr m)))
-          at-first first-known (head .fits)
-          (λ y s. head .elsewhere y (λ i. apart y i s) .0 ∙ un y (s .0, inr (s .1), s .2))
-
-      from : (y d : ℕ) → d ∈ (c ∷ cs) → Inside t d y → Inside t c y ⊎ Within cs y
-      from y d (inl e) i = inl (rw e at i)
-      from y d (inr m) i = inr (d, m, i)
-
-      to : (y : ℕ) → Inside t c y ⊎ Within cs y → Within (c ∷ cs) y
-      to y (inl i) = (c, inl refl, i)
+      to : (y : ℕ) → Inside t d y ⊎ Within ds y → Within (d ∷ ds) y
+      to y (inl i) = (d, inl refl, i)
       to y (inr s) = (s .0, inr (s .1), s .2)
 
-      both-parts : Covers t (Within (c ∷ cs)) w (ringNumbered k t b (next t c) (nodeNumbered k t c w))
-      both-parts =
-          covers-same t (λ y. Inside t c y ⊎ Within cs y) (Within (c ∷ cs)) w (ringNumbered k t b (next t c) (nodeNumbered k t c w)) to (λ y s. from y (s .0) (s .1) (s .2))
-          (covers-joined t (Inside t c) (Within cs) w (nodeNumbered k t c w) (ringNumbered k t b (next t c) (nodeNumbered k t c w)) head tail apart
-          (λ x d a i. inside-join t c x d i a)
-          (λ x d s i. (s .0, s .1, inside-join t (s .0) x d i (s .2))))
+      -- the last
+      module _ (none-left : ds ≡ []) where
+        alone : (y : ℕ) → Inside t d y ⊎ Within ds y → Inside t d y
+        alone y (inl i) = i
+        alone y (inr s) = absurd (rw none-left at (s .1))
 
-      ring-step : Covers t (Within (c ∷ cs)) w (ringNumbered (suc k) t b c w)
-      unfolding ringNumbered
-      ring-step = rw (enters b c w own (un c (c, inl refl, inside-self t c))) both-parts
+        last-part : Covers t (Within (d ∷ ds)) w (nodeNumbered k t d w)
+        last-part = covers-same t (Inside t d) (Within (d ∷ ds)) w (nodeNumbered k t d w) (λ y i. to y (inl i)) (λ y s. alone y (from y (s .0) (s .1) (s .2))) head
 
-  ring-end : (k b n : ℕ) (w : Numbers) → 1 ≤ numberIn w n → ringNumbered k t b n w ≡ w
-  unfolding ringNumbered
-  ring-end zero b n w l = refl
-  ring-end (suc k) b n w l = rw (passes b n w l)
+        last-odd : isOddRing (c + 1) ≡ true
+        last-odd = rw none-left at odd
+
+        last-back : eqb (next t d) first ≡ true
+        last-back = eqb-yes (next t d) first (comes-back t first d (closes d (inl refl)) (rw none-left at chain))
+
+        ring-last : Covers t (Within (d ∷ ds)) w (ringFrom (suc k) t b first d c w)
+        unfolding ringFrom
+        ring-last = rw (entered, unbroken (nodeNumbered k t d w) (head .fits), last-back, last-odd) last-part
+
+      -- another
+      module _ (some : nextInRing t first d ≢ none) (tail : (v : Numbers) → Fits v → ((y : ℕ) → Within ds y → numberIn v y ≡ 0) → Covers t (Within ds) v (ringFrom k t b first (next t d) (c + 1) v)) where
+        apart : (y : ℕ) → Inside t d y → ¬ Within ds y
+        apart y i s = once .0 (rw (one-ring-node t nest b d (s .0) y own (mine (s .0) (inr (s .1))) i (s .2)) (s .1))
+
+        tail-part : Covers t (Within ds) (nodeNumbered k t d w) (ringFrom k t b first (next t d) (c + 1) (nodeNumbered k t d w))
+        tail-part = tail (nodeNumbered k t d w) (head .fits) (λ y s. head .elsewhere y (λ i. apart y i s) .0 ∙ un y (s .0, inr (s .1), s .2))
+
+        both-parts : Covers t (Within (d ∷ ds)) w (ringFrom k t b first (next t d) (c + 1) (nodeNumbered k t d w))
+        both-parts =
+            covers-same t (λ y. Inside t d y ⊎ Within ds y) (Within (d ∷ ds)) w (ringFrom k t b first (next t d) (c + 1) (nodeNumbered k t d w)) to (λ y s. from y (s .0) (s .1) (s .2))
+            (covers-joined t (Inside t d) (Within ds) w (nodeNumbered k t d w) (ringFrom k t b first (next t d) (c + 1) (nodeNumbered k t d w)) head tail-part apart
+            (λ x y a i. inside-join t d x y i a)
+            (λ x y s i. (s .0, s .1, inside-join t (s .0) x y i (s .2))))
+
+        ring-on : Covers t (Within (d ∷ ds)) w (ringFrom (suc k) t b first d c w)
+        unfolding ringFrom
+        ring-on = rw (entered, unbroken (nodeNumbered k t d w) (head .fits), eqb-no (next t d) first (goes-on t first d some)) both-parts
+
+  longer : (c n : ℕ) → c + suc n ≡ c + 1 + n
+  longer c n = omega arith
 
   ring-covers : (k : ℕ) → RingCovers k
-  ring-covers zero b first n [] w way mine once budget i known f un =
-      rw (ring-end 0 b n w (rw way (known (λ m. m)))) (covers-none t (Within []) w f (λ y s. s .1))
-  ring-covers zero b first n (c ∷ cs) w way mine once budget i known f un = absurd (omega (arith, budget c (inl refl)))
-  ring-covers (suc k) b first n [] w way mine once budget i known f un =
-      rw (ring-end (suc k) b n w (rw way (known (λ m. m)))) (covers-none t (Within []) w f (λ y s. s .1))
-  ring-covers (suc k) b first n (c ∷ cs) w way mine once budget i known f un =
-      rw (way .0) (ring-step k (ring-covers k) b first c cs w (way .1) mine once budget i known f un)
+  ring-covers zero b first n c d ds w p s m o u q f un = absurd (omega (arith, u d (inl refl)))
+  ring-covers (suc k) b first n c d [] w p s m o u q f un = rw (p .0) (ring-last k (ring-covers k) b first c d [] w (p .2) s m o u q f un refl)
+  ring-covers (suc k) b first n c d (e ∷ es) w p s m o u q f un =
+      let i : nextInRing t first d ≢ none = p .2 .1 in
+      let g : nextInRing t first d ≡ next t d = ring-goes-on t first d (goes-on t first d i) in
+      rw (p .0)
+      (ring-on k (ring-covers k) b first c d (e ∷ es) w (p .2) s m o u q f un i
+      (λ v h z.
+      ring-covers k b first (next t d) (c + 1) e es v (rw g at (p .2)) (λ j r. s j (inr r)) (λ j r. m j (inr r)) (o .1)
+      (λ j r. omega (arith, u j (inr r))) (rw (longer c (length (e ∷ es))) at q) h z))
 
   -- ---- from the outer blossoms
 
@@ -225,8 +255,8 @@ module _ (t : Table) (full : Full t) (nest : Nest t) where
     unfolding outersNumbered outerNumbered
     outers-step =
         elim (test-case (outer t i)) [
-          | inl o ↦ rw (test-true (outer t i) o) (together o)
-          | inr h ↦ let o = T-not (outer t i) h in rw (test-false (outer t i) o) (without o)
+          | inl o ↦ rw (test-true (outer t i) o, unbroken (nodeNumbered 65536 t i w) (one o .fits)) (together o)
+          | inr h ↦ let o = T-not (outer t i) h in rw (test-false (outer t i) o, unbroken w f) (without o)
         ]
 
   outers-cover : (k i : ℕ) → OutersCover k i
@@ -235,13 +265,6 @@ module _ (t : Table) (full : Full t) (nest : Nest t) where
   outers-cover (suc k) i w f un = outers-step k i (outers-cover k (suc i)) w f un
 
   -- ---- all of them
-
-  blank : (y : ℕ) → getD unseen y 0 ≡ 0
-  blank y =
-      elim (decLt y 256) [
-        | yes l ↦ getD-replicate {A = ℕ} 256 y 0 0 l
-        | no g ↦ let h : length unseen ≤ y = rw length-replicate (omega arith) in List·getD-eq-default unseen 0 h
-      ]
 
   abbrev start : Numbers
   start = numbersOf unseen unseen 1
@@ -274,6 +297,18 @@ module _ (t : Table) (full : Full t) (nest : Nest t) where
       let r = home t nest x (p .there) in
       let b : PresentBlossom t (r .0) = elim (same-or-not x (r .0)) [ inl e ↦ rw e at p | inr d ↦ holder-blossom t nest (r .0) x d (r .2) ] in
       (r .0, b .blossom, omega (arith, nest .given (r .0) b), r .1, r .2)
+
+  pub all-unbroken : eqb (numbers .free) 0 ≡ false
+  all-unbroken = unbroken numbers (all .fits)
+
+  -- every inner node has a number
+  pub inner-number : (n : ℕ) → T (inner t n) → 1 ≤ numberIn numbers n
+  inner-number n i =
+      let r = home t nest n (inner-present (at t n .state) i) in
+      let d : n ≢ r .0 = λ e. outer-not-inner (at t (r .0) .state) (r .1) (rw e at i) in
+      let s = blossom-held (r .0) (holder-blossom t nest (r .0) n d (r .2)) in
+      let h : Held n = (s .0, s .1, s .2, s .3, inside-join t (s .0) (r .0) n (r .2) (s .4)) in
+      all .begins n h .0
 
   inside-between : (x d : ℕ) → d < t .begin → d ≢ x → Inside t x d → Between numbers x d
   inside-between x d l n i =
@@ -347,6 +382,14 @@ module _ (t : Table) (full : Full t) (sizes : Sizes t)
 
     pub numbers-right : (x d : ℕ) → T (byNumbers x d) → T (isDefectInside t x d)
     numbers-right = held-inside t full nest (λ x n i. →inside t x full inners n i)
+
+    pub numbers-given : eqb (numbersFrom t (t .begin) (t .begin + t .blossoms) .free) 0 ≡ false
+    numbers-given = all-unbroken t full nest
+
+    pub inners-numbered : (n : ℕ) → T (inner t n) → T (numberedIn (numbersFrom t (t .begin) (t .begin + t .blossoms)) n)
+    inners-numbered n i =
+        let l = inner-number t full nest n i in
+        not-eqb↔ (numberIn (numbersFrom t (t .begin) (t .begin + t .blossoms)) n) 0 .1 (λ z. omega arith)
 
     pub numbers-complete : (x d : ℕ) → T (isDefectInside t x d) → T (byNumbers x d)
     numbers-complete = inside-held t full nest (λ x n i. →inside t x full inners n i)

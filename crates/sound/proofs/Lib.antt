@@ -9,4 +9,5 @@ pub mod Nests
 pub mod Filled
 pub mod Stretches
 pub mod InsideByNumbers
+pub mod RingsWalked
 pub mod Checked

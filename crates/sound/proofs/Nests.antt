@@ -1,7 +1,6 @@
 -- Blossoms inside one another: what the numbers of insides rely on, and what follows for "inside" from that alone.
 use mathlib.Core.Path.{_≡_, refl, sym, ap, _∙_}
 use mathlib.Core.Logic.{_≢_, _⊎_, inl, inr}
-use mathlib.Core.List.{List, [], _∷_}
 use Prim.Native.Nat.{ℕ, zero, suc, _+_, _≤_, _<_}
 use native.Mathlib.Omega.{arith}
 use lib.Dec.{T}
@@ -14,7 +13,7 @@ use Rattle.table.specs.Table.{Table, at, Full}
 use Rattle.table.specs.Nodes.{present, outer, inner}
 use Rattle.rules.specs.Slots.{up, next}
 use Rattle.rules.specs.Sound.{nextInRing}
-use Rattle.theorems_soundness.specs.Chain.{_∈_, Chain, Steps}
+use Rattle.theorems_soundness.specs.Chain.{Steps}
 use Rattle.theorems_soundness.specs.FactsOfBlossoms.{PresentBlossom, InnerChild, Ring, Inside}
 use Rattle.theorems_soundness.proofs.Reflect.{same-or-not}
 use Rattle.theorems_soundness.proofs.Past.{inner-below}
@@ -33,7 +32,7 @@ pub record Nest (t : Table) : Type 0 where
   pub rises : (n : ℕ) → T (inner t n) → rank n < rank (up t n)
   pub low : (n : ℕ) → T (present t n) → rank n ≤ 256
 
-state-case : (x : State) → x ≢ S.Damaged → T (isPresent x) → T (isOuter x) ⊎ T (isInner x)
+pub state-case : (x : State) → x ≢ S.Damaged → T (isPresent x) → T (isOuter x) ⊎ T (isInner x)
 state-case S.Empty d p = absurd p
 state-case S.Inner d p = inr tt
 state-case S.Stay d p = inl tt
@@ -91,30 +90,16 @@ module _ (t : Table) (nest : Nest t) where
   pub home : (n : ℕ) → T (present t n) → (o : ℕ) × T (outer t o) × Inside t o n
   home n h = climb-out 257 n (omega arith) h
 
--- ---- the way around a ring
-
--- from a along siblings through a list to e
-abbrev pub Way : (ℕ → ℕ) → ℕ → List ℕ → ℕ → Type 0
-Way next a [] e = a ≡ e
-Way next a (c ∷ cs) e = (a ≡ c) × Way next (next c) cs e
-
-module _ (t : Table) (first : ℕ) where
-  back : (j : ℕ) (cs : List ℕ) → Chain (nextInRing t first) (nextInRing t first j) cs → ((x : ℕ) → x ∈ (j ∷ cs) → next t x ≢ none) → Way (next t) (next t j) cs first
-  back j [] p h = elim (same-or-not (next t j) first) [ inl e ↦ e | inr d ↦ absurd (h j (inl refl) (sym (ring-goes-on t first j d) ∙ p)) ]
-  back j (c ∷ cs) p h =
-      elim (same-or-not (next t j) first) [
-        | inl e ↦ absurd (p .1 (ring-comes-back t first j e))
-        | inr d ↦ (sym (ring-goes-on t first j d) ∙ p .0, back c cs (p .2) (λ x m. h x (inr m)))
-      ]
+-- ---- around a ring
 
 module _ (t : Table) (b : ℕ) (r : Ring t b) where
-  -- from the first node and back to it
-  pub ring-way : Way (next t) (at t b .ring) (r .list) (at t b .ring)
-  ring-way = go (r .list) (r .chain) (r .closes) (r .at-least-three)
-    where
-      go : (cs : List ℕ) → Chain (nextInRing t (at t b .ring)) (at t b .ring) cs → ((j : ℕ) → j ∈ cs → next t j ≢ none) → 3 ≤ length cs → Way (next t) (at t b .ring) cs (at t b .ring)
-      go [] p h l = absurd (omega arith)
-      go (c ∷ cs) p h l = (p .0, back t (at t b .ring) c cs (p .2) h)
-
   pub ring-short : Full t → length (r .list) ≤ 256
   ring-short full = chain-fits (nextInRing t (at t b .ring)) 256 (at t b .ring) (r .list) (r .chain) (λ j m. inner-below t full j (r .exact j .0 m .0))
+
+-- the last node comes back to the first, and another does not
+module _ (t : Table) (first d : ℕ) where
+  pub comes-back : next t d ≢ none → nextInRing t first d ≡ none → next t d ≡ first
+  comes-back s e = elim (same-or-not (next t d) first) [ inl q ↦ q | inr n ↦ absurd (s (sym (ring-goes-on t first d n) ∙ e)) ]
+
+  pub goes-on : nextInRing t first d ≢ none → next t d ≢ first
+  goes-on s e = s (ring-comes-back t first d e)

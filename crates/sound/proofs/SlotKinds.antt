@@ -27,12 +27,12 @@ use Rattle.sound_slots.specs.States.{innerHolds, stayHolds, growHolds, shrinkHo
 use Rattle.sound.specs.OneSlot.{ruleOf, slotHolds}
 
 -- a slot that is given out and judged, or an empty one
-module _ (t : Table) (full : Full t) (sizes : Sizes t) (held : ℕ → ℕ → Bool)
+module _ (t : Table) (full : Full t) (sizes : Sizes t) (held : ℕ → ℕ → Bool) (numbered : ℕ → Bool)
     (defect : (x n : ℕ) → T (held x n) → n < t .begin)
-    (judged : (n : ℕ) → T (present t n) → T (slotHolds t held n))
+    (judged : (n : ℕ) → T (present t n) → T (slotHolds t held numbered n))
     (empty : (n : ℕ) → at t n .state ≡ S.Empty → at t n ≡ emptySlot)
   where
-    rule : (n : ℕ) (x : State) → at t n .state ≡ x → T (isPresent x) → T (ruleOf x t held n (at t n))
+    rule : (n : ℕ) (x : State) → at t n .state ≡ x → T (isPresent x) → T (ruleOf x t held numbered n (at t n))
     unfolding slotHolds
     rule n x e p = rw (← e) (and→ (ringPlaced t n (at t n .ring)) _ (judged n (rw e p)) .1)
 
@@ -222,9 +222,17 @@ module _ (t : Table) (full : Full t) (sizes : Sizes t) (held : ℕ → ℕ → B
     -- ---- inner nodes
 
     inner-parts : (n : ℕ) → at t n .state ≡ S.Inner
-        → T (isThrough (at t n .link) && isNone (at t n .firstChild) && isSome (up t n) && ltb n (up t n)) × T (touchesHold held n (next t n) (at t n .link))
+        → T (isThrough (at t n .link) && isNone (at t n .firstChild) && isSome (up t n) && ltb n (up t n))
+        × T (numbered n)
+        × T (touchesHold held n (next t n) (at t n .link))
     unfolding innerHolds
-    inner-parts n e = and→ (isThrough (at t n .link) && isNone (at t n .firstChild) && isSome (up t n) && ltb n (up t n)) _ (rule n S.Inner e tt)
+    inner-parts n e =
+        let q = and→ (isThrough (at t n .link) && isNone (at t n .firstChild) && isSome (up t n) && ltb n (up t n)) _ (rule n S.Inner e tt) in
+        let r = and→ (numbered n) (touchesHold held n (next t n) (at t n .link)) (q .1) in
+        (q .0, r .0, r .1)
+
+    pub inner-numbered : (n : ℕ) → T (inner t n) → T (numbered n)
+    inner-numbered n i = inner-parts n (inner↔ _ .0 i) .1
 
     pub inner-child : (n : ℕ) → T (inner t n) → up t n ≢ none
     inner-child n i = let r = simp tests at (inner-parts n (inner↔ _ .0 i) .0) in r .0 .1
@@ -236,7 +244,7 @@ module _ (t : Table) (full : Full t) (sizes : Sizes t) (held : ℕ → ℕ → B
     in-blossom n i b =
         let h = inner-parts n (inner↔ _ .0 i) in
         let r = simp tests at (h .0) in
-        record { linked = full-link n (next t n) (at t n .link) (simp tests (r .0 .0 .0)) (h .1); childless = r .0 .0 .1; parent = b; larger = r .1 }
+        record { linked = full-link n (next t n) (at t n .link) (simp tests (r .0 .0 .0)) (h .2); childless = r .0 .0 .1; parent = b; larger = r .1 }
 
     -- ---- S8
 
@@ -280,7 +288,7 @@ module _ (t : Table) (full : Full t) (sizes : Sizes t) (held : ℕ → ℕ → B
       where
         go : (x : State) → at t n .state ≡ x → Linked n
         go S.Empty e = unlinked (ap (λ (s : Slot). s .link) (empty n e))
-        go S.Inner e = linked-to (next t n) (far-end-inner t n (inner↔ _ .1 e)) (inner-parts n e .1)
+        go S.Inner e = linked-to (next t n) (far-end-inner t n (inner↔ _ .1 e)) (inner-parts n e .2)
         go S.Stay e = stay-linked n e
         go S.Grow e = grow-linked n e
         go S.Shrink e = shrink-linked n e

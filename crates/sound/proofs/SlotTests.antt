@@ -24,7 +24,7 @@ use Rattle.sound_slots.specs.Links.{isThrough, touchesHold, ringPlaced, pointsB
 use Rattle.sound_slots.specs.States.{innerHolds, stayHolds, growHolds, shrinkHolds}
 use Rattle.sound.specs.OneSlot.{ruleOf, slotHolds, isVacant, vacantOf}
 
-module _ (t : Table) (full : Full t) (h : T (sound t)) (held : ℕ → ℕ → Bool) (outward : (x n : ℕ) → T (isDefectInside t x n) → T (held x n)) where
+module _ (t : Table) (full : Full t) (h : T (sound t)) (held : ℕ → ℕ → Bool) (numbered : ℕ → Bool) (all-numbered : (n : ℕ) → T (inner t n) → T (numbered n)) (outward : (x n : ℕ) → T (isDefectInside t x n) → T (held x n)) where
   core : Core t
   core = sound→core t full h
 
@@ -58,14 +58,14 @@ module _ (t : Table) (full : Full t) (h : T (sound t)) (held : ℕ → ℕ → B
   -- ---- each state
 
   module _ (n : ℕ) where
-    inner-test : at t n .state ≡ S.Inner → T (innerHolds held n (at t n))
+    inner-test : at t n .state ≡ S.Inner → T (innerHolds held numbered n (at t n))
     unfolding innerHolds
     inner-test e =
         let i : T (inner t n) = rw e tt in
         let b = rest .inners n i in
-        →and (isThrough (at t n .link) && isNone (at t n .firstChild) && isSome (up t n) && ltb n (up t n)) (touchesHold held n (next t n) (at t n .link))
+        →and (isThrough (at t n .link) && isNone (at t n .firstChild) && isSome (up t n) && ltb n (up t n)) (numbered n && touchesHold held n (next t n) (at t n .link))
         (simp tests ((((b .linked .has-through, b .linked .has-peer-through), b .childless), present-some t full (up t n) (b .parent .there)), b .larger))
-        (touching n (next t n) (far-end-inner t n i) (b .linked))
+        (→and (numbered n) (touchesHold held n (next t n) (at t n .link)) (all-numbered n i) (touching n (next t n) (far-end-inner t n i) (b .linked)))
 
     virtual-test : Virtual (at t n) → T (stayHolds t held n (at t n))
     unfolding stayHolds
@@ -143,14 +143,14 @@ module _ (t : Table) (full : Full t) (h : T (sound t)) (held : ℕ → ℕ → B
     empty-test : at t n .state ≡ S.Empty → T (isBare (at t n))
     empty-test e = rw (rest .bare n e) tt
 
-    pub slot-test : T (slotHolds t held n)
+    pub slot-test : T (slotHolds t held numbered n)
     unfolding slotHolds
     slot-test =
-        →and (ringPlaced t n (at t n .ring)) (ruleOf (at t n .state) t held n (at t n))
+        →and (ringPlaced t n (at t n .ring)) (ruleOf (at t n .state) t held numbered n (at t n))
         (→imp (isSome (at t n .ring)) (isBlossom t n) (λ r. simp tests (rest .ring-owner n (simp tests at r) .blossom)))
         (go (at t n .state) refl)
       where
-        go : (x : State) → at t n .state ≡ x → T (ruleOf x t held n (at t n))
+        go : (x : State) → at t n .state ≡ x → T (ruleOf x t held numbered n (at t n))
         go S.Empty e = empty-test e
         go S.Inner e = inner-test e
         go S.Stay e = stay-test e (core .kind n (rw e tt))

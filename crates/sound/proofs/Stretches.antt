@@ -23,7 +23,7 @@ use Rattle.theorems_soundness.proofs.Past.{present-below}
 use Rattle.theorems_soundness.proofs.RingLaws.{ring-once}
 use Rattle.theorems_soundness.proofs.InsideLaws.{inside-self, inside-ring-node, inside-join, inside-ring}
 use Rattle.sound_walks.specs.Numbers.{Numbers, counted, begun, ended, isNext, nodeBy, ringNumbered, nodeNumbered}
-use Rattle.sound.proofs.Nests.{Nest, ring-node-lower, not-above, one-ring-node, defect-alone, Way, ring-way, ring-short}
+use Rattle.sound.proofs.Nests.{Nest, defect-alone}
 use Rattle.sound.proofs.Filled.{Fits, no-wrap, counted-fits, begun-fits, ended-fits}
 
 abbrev pub numberIn : Numbers → ℕ → ℕ

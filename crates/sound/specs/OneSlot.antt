@@ -9,17 +9,17 @@ use Rattle.rules.specs.Sound.{isBare}
 use Rattle.sound_slots.specs.Links.{ringPlaced}
 use Rattle.sound_slots.specs.States.{innerHolds, stayHolds, growHolds, shrinkHolds}
 
--- `held` tests whether a node holds a touch
-abbrev pub ruleOf : State → Table → (ℕ → ℕ → Bool) → ℕ → Slot → Bool
-ruleOf S.Empty t held n s = isBare s
-ruleOf S.Inner t held n s = innerHolds held n s
-ruleOf S.Stay t held n s = stayHolds t held n s
-ruleOf S.Grow t held n s = growHolds t held n s
-ruleOf S.Shrink t held n s = shrinkHolds t held n s
-ruleOf S.Damaged t held n s = false
+-- `held` tests whether a node holds a touch, `numbered` whether it has a number
+abbrev pub ruleOf : State → Table → (ℕ → ℕ → Bool) → (ℕ → Bool) → ℕ → Slot → Bool
+ruleOf S.Empty t held numbered n s = isBare s
+ruleOf S.Inner t held numbered n s = innerHolds held numbered n s
+ruleOf S.Stay t held numbered n s = stayHolds t held n s
+ruleOf S.Grow t held numbered n s = growHolds t held n s
+ruleOf S.Shrink t held numbered n s = shrinkHolds t held n s
+ruleOf S.Damaged t held numbered n s = false
 
-unfoldable pub slotHolds : Table → (ℕ → ℕ → Bool) → ℕ → Bool
-slotHolds t held n = ringPlaced t n (at t n .ring) && ruleOf (at t n .state) t held n (at t n)
+unfoldable pub slotHolds : Table → (ℕ → ℕ → Bool) → (ℕ → Bool) → ℕ → Bool
+slotHolds t held numbered n = ringPlaced t n (at t n .ring) && ruleOf (at t n .state) t held numbered n (at t n)
 
 -- ---- slots that are not given out
 

@@ -1,21 +1,20 @@
 // The soundness check (01, "The table", S1 to S8): yes exactly if the table is sound, for any words.
 //
 // Slots that are not given out must be empty; the others, the defects below `count_defects` and the blossoms from begin on, are
-// judged one by one, with numbers for what is inside blossoms, and then along their pointers.
+// judged one by one, with the numbers that a walk along rings gives, and then along child lists and ways up.
 pub mod slots;
 
 use sound_walks::children;
 use sound_walks::numbers;
-use sound_walks::rings;
 use sound_walks::ways;
 use table::Table;
 ghost use mathlib.Core.Path.{_≡_};
 ghost use Rattle.table.specs.Words.{tableOf};
 ghost use Rattle.rules.specs.Sound.{sound};
-ghost use Rattle.sound_slots.specs.Links.{isHeld};
+ghost use Rattle.sound_slots.specs.Links.{isHeld, isNumbered};
 ghost use Rattle.sound.specs.Given.{eachHolds, numberedHold, pathsHold};
 
-// Each slot by itself (S1 to S4, S8), the touches by numbers.
+// Each slot by itself (S1 to S4, S7 and S8), touches by numbers.
 fn each_holds<'a>(
     t: &Table,
     lo: &'a [u16],
@@ -24,7 +23,7 @@ fn each_holds<'a>(
     begin: u16,
     end: u16,
 ) -> bool
-    ensures { λ r. ⌜ r ≡ eachHolds (tableOf (now (t .entry))) (isHeld (tableOf (now (t .entry))) (now (lo .entry)) (now (hi .entry))) defects begin end ⌝ }
+    ensures { λ r. ⌜ r ≡ eachHolds (tableOf (now (t .entry))) (isHeld (tableOf (now (t .entry))) (now (lo .entry)) (now (hi .entry))) (isNumbered (now (lo .entry))) defects begin end ⌝ }
 {
     if !crate::slots::slots_hold(t, lo, hi, 0, defects) {
         return false;
@@ -38,22 +37,23 @@ fn each_holds<'a>(
     crate::slots::all_vacant(t, end, 256)
 }
 
-// The insides of blossoms numbered, then each slot by itself.
+// Rings, whose insides get numbers (S6), then each slot by itself.
 fn numbered_hold(t: &Table, defects: u16, begin: u16, end: u16) -> bool
     ensures { λ r. ⌜ r ≡ numberedHold (tableOf (now (t .entry))) defects begin end ⌝ }
 {
     let mut lo: [u16; 256] = [0; 256];
     let mut hi: [u16; 256] = [0; 256];
-    numbers::number_outers(t, &mut lo, &mut hi, begin, end);
+    if numbers::number_outers(t, &mut lo, &mut hi, begin, end) == 0 {
+        return false;
+    }
     each_holds(t, &lo, &hi, defects, begin, end)
 }
 
-// Child lists, rings and ways up (S5 to S7).
+// Child lists and ways up (S5, S7).
 fn paths_hold(t: &Table, defects: u16, begin: u16, end: u16) -> bool
     ensures { λ r. ⌜ r ≡ pathsHold (tableOf (now (t .entry))) defects begin end ⌝ }
 {
     let mut listed: [u8; 256] = [0; 256];
-    let mut ringed: [u8; 256] = [0; 256];
     let mut deep: [u16; 256] = [0; 256];
     if !children::lists_hold(t, &mut listed, 0, defects) {
         return false;
@@ -61,13 +61,10 @@ fn paths_hold(t: &Table, defects: u16, begin: u16, end: u16) -> bool
     if !children::lists_hold(t, &mut listed, begin, end) {
         return false;
     }
-    if !rings::rings_hold(t, &mut ringed, begin, end) {
+    if !ways::ways_hold(t, &listed, &mut deep, 0, defects) {
         return false;
     }
-    if !ways::ways_hold(t, &listed, &ringed, &mut deep, 0, defects) {
-        return false;
-    }
-    ways::ways_hold(t, &listed, &ringed, &mut deep, begin, end)
+    ways::ways_hold(t, &listed, &mut deep, begin, end)
 }
 
 pub fn is_sound(t: &Table) -> bool

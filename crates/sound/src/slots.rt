@@ -13,7 +13,7 @@ ghost use mathlib.Core.Path.{_≡_};
 ghost use Prim.Native.Nat.{_+_, _-_};
 ghost use Rattle.table.specs.Words.{tableOf};
 ghost use Rattle.rules.specs.Sound.{sizesHold};
-ghost use Rattle.sound_slots.specs.Links.{isHeld};
+ghost use Rattle.sound_slots.specs.Links.{isHeld, isNumbered};
 ghost use Rattle.sound_walks.specs.Pass.{allFrom};
 ghost use Rattle.sound.specs.OneSlot.{slotHolds, isVacant};
 
@@ -39,7 +39,7 @@ pub fn sizes_hold(t: &Table) -> bool
 
 // All that is asked of a slot that is given out, with the numbers of insides.
 pub fn slot_holds<'a>(t: &Table, lo: &'a [u16], hi: &'a [u16], n: Node) -> bool
-    ensures { λ r. ⌜ r ≡ slotHolds (tableOf (now (t .entry))) (isHeld (tableOf (now (t .entry))) (now (lo .entry)) (now (hi .entry))) (n .0) ⌝ }
+    ensures { λ r. ⌜ r ≡ slotHolds (tableOf (now (t .entry))) (isHeld (tableOf (now (t .entry))) (now (lo .entry)) (now (hi .entry))) (isNumbered (now (lo .entry))) (n .0) ⌝ }
 {
     let s = table::get(t, n);
     let state = s.state;
@@ -75,7 +75,7 @@ fn is_vacant(t: &Table, n: Node) -> bool
 
 // The slots from one number to before another.
 pub fn slots_hold<'a>(t: &Table, lo: &'a [u16], hi: &'a [u16], from: u16, to: u16) -> bool
-    ensures { λ r. ⌜ r ≡ allFrom (slotHolds (tableOf (now (t .entry))) (isHeld (tableOf (now (t .entry))) (now (lo .entry)) (now (hi .entry)))) (to - from) from ⌝ }
+    ensures { λ r. ⌜ r ≡ allFrom (slotHolds (tableOf (now (t .entry))) (isHeld (tableOf (now (t .entry))) (now (lo .entry)) (now (hi .entry))) (isNumbered (now (lo .entry)))) (to - from) from ⌝ }
 {
     let mut i = from;
     while i < to {

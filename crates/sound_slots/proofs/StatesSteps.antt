@@ -1,24 +1,45 @@
 -- Steps of the code that branch: what was found so far, in the code's order, and then the function's own promise.
 use mathlib.Core.Path.{_≡_, sym, _∙_}
 use mathlib.Core.Bool.{Bool, true, false, _&&_}
+use mathlib.Core.List.{List}
 use Prim.Native.Nat.{ℕ}
+use lib.Dec.{ltb}
+use lib.ListN.{getD}
 use borrow.Author.Tests.{eq-eqb, ne-eqb}
 use Rattle.slot.specs.Number.{none}
 use Rattle.slot.specs.declared.state.State.{State}
 use Rattle.slot.specs.Slot.{Slot, noLink}
 use Rattle.table.specs.Table.{Table, at}
 use Rattle.rules.specs.Slots.{isNone, isSome, sameLink, isGrow, isShrink}
-use Rattle.sound_slots.specs.Links.{isThrough, touchesHold, pairHolds}
+use Rattle.sound_slots.specs.Links.{isThrough, isHeld, isNumbered, touchesHold, pairHolds}
 use Rattle.sound_slots.proofs.LinksSteps.{stops, goes}
-use Rattle.sound_slots.specs.States.{stayHolds, growHolds, shrinkHolds}
+use Rattle.sound_slots.specs.States.{innerHolds, stayHolds, growHolds, shrinkHolds}
 
 -- tests put together one after another
 module _ (p q a b x y : Bool) (e : p ≡ q) (f : x ≡ (p && a)) (g : y ≡ (x && b)) where
-  pub joined : y ≡ (q && a && b)
+  joined : y ≡ (q && a && b)
   joined = rw (g, f, e)
 
-  pub joined-more : (c z : Bool) → z ≡ (y && c) → z ≡ (q && a && b && c)
+  joined-more : (c z : Bool) → z ≡ (y && c) → z ≡ (q && a && b && c)
   joined-more c z h = rw (h, joined)
+
+-- an inner node, by its number
+module _ (t : Table) (lo hi : List ℕ) (n : ℕ) (s : Slot) (through bare named larger : Bool) (e : through ≡ isThrough (s .link)) (f : bare ≡ (through && isNone (s .firstChild))) (g : named ≡ (bare && isSome (s .parent))) (h : larger ≡ (named && ltb n (s .parent))) where
+  inner-test : (isThrough (s .link) && isNone (s .firstChild) && isSome (s .parent) && ltb n (s .parent)) ≡ larger
+  inner-test = sym (joined-more _ _ _ _ _ _ e f g _ _ h)
+
+  pub inner-stops : larger ≡ false → false ≡ innerHolds (isHeld t lo hi) (isNumbered lo) n s
+  unfolding innerHolds
+  inner-stops q = stops _ _ (inner-test ∙ q)
+
+  module _ (q : larger ≡ true) (v : ℕ) (u : v ≡ getD lo n 0) where
+    pub inner-unnumbered : v ≡ 0 → false ≡ innerHolds (isHeld t lo hi) (isNumbered lo) n s
+    unfolding innerHolds
+    inner-unnumbered z = goes _ _ _ (inner-test ∙ q) (rw (← u, eq-eqb v 0 z))
+
+    pub inner-goes : (r : Bool) → (v ≡ 0 → ⊥) → r ≡ touchesHold (isHeld t lo hi) n (s .sibling) (s .link) → r ≡ innerHolds (isHeld t lo hi) (isNumbered lo) n s
+    unfolding innerHolds
+    inner-goes r z i = goes _ _ _ (inner-test ∙ q) (i ∙ rw (← u, ne-eqb v 0 z))
 
 -- a matched node: to a virtual vertex where it has no sibling, else to its sibling
 module _ (t : Table) (held : ℕ → ℕ → Bool) (n : ℕ) (s : Slot) (through top single : Bool) (e : through ≡ isThrough (s .link)) (f : top ≡ (through && isNone (s .parent))) (g : single ≡ (top && isNone (s .firstChild))) where

@@ -18,6 +18,10 @@ isThrough l = isVertex (l .through) && isVertex (l .peerThrough)
 unfoldable pub isHeld : Table → List ℕ → List ℕ → ℕ → ℕ → Bool
 isHeld t lo hi x n = isDefect t n && (eqb n x || (leb (getD lo x 0) (getD lo n 0) && ltb (getD lo n 0) (getD hi x 0)))
 
+-- a node that a ring was found to hold has a number
+abbrev pub isNumbered : List ℕ → ℕ → Bool
+isNumbered lo n = not (eqb (getD lo n 0) 0)
+
 -- S8, with the far end of the link; a node and a touch are held against one another by a test
 unfoldable pub touchesHold : (ℕ → ℕ → Bool) → ℕ → ℕ → Link → Bool
 touchesHold held n far l = held n (l .touch) && held far (l .peerTouch)

@@ -9,11 +9,11 @@ use Rattle.table.specs.Table.{Table, at}
 use Rattle.rules.specs.Slots.{isNone, isSome, sameLink, isGrow, isShrink}
 use Rattle.sound_slots.specs.Links.{isThrough, touchesHold, pairHolds}
 
--- S6 and S7 of an inner node; its parent's ring finds that the parent is a blossom
-unfoldable pub innerHolds : (ℕ → ℕ → Bool) → ℕ → Slot → Bool
-innerHolds held n s =
+-- S6 and S7 of an inner node; it has a number, so its parent is a blossom that has it on its ring
+unfoldable pub innerHolds : (ℕ → ℕ → Bool) → (ℕ → Bool) → ℕ → Slot → Bool
+innerHolds held numbered n s =
     (isThrough (s .link) && isNone (s .firstChild) && isSome (s .parent) && ltb n (s .parent))
-    && touchesHold held n (s .sibling) (s .link)
+    && (numbered n && touchesHold held n (s .sibling) (s .link))
 
 -- S3: only a matched node stays
 unfoldable pub stayHolds : Table → (ℕ → ℕ → Bool) → ℕ → Slot → Bool

@@ -1,9 +1,10 @@
 // What a slot must be depends on its state alone: what each state asks of the slot and of what its pointers name. Nothing is
 // asked that another test tells: a peer with a smaller number has judged the link, and the walks along child lists and rings find
-// that what they name is present.
+// that what they name is present. Rings were walked before, and gave their nodes numbers.
 use crate::links::pair_holds;
 use crate::links::touch_holds;
 use crate::links::touches_hold;
+use crate::numbers::number_of;
 use crate::truth::both;
 use crate::value;
 use slot::Node;
@@ -12,11 +13,11 @@ use table::Table;
 ghost use mathlib.Core.Path.{_≡_};
 ghost use Rattle.slot.specs.Slot.{slotOf};
 ghost use Rattle.table.specs.Words.{tableOf};
-ghost use Rattle.sound_slots.specs.Links.{isHeld};
+ghost use Rattle.sound_slots.specs.Links.{isHeld, isNumbered};
 ghost use Rattle.sound_slots.specs.States.{innerHolds, stayHolds, growHolds, shrinkHolds};
 
 pub fn inner_holds<'a>(t: &Table, lo: &'a [u16], hi: &'a [u16], n: Node, s: Slot) -> bool
-    ensures { λ r. ⌜ r ≡ innerHolds (isHeld (tableOf (now (t .entry))) (now (lo .entry)) (now (hi .entry))) (n .0) (slotOf s) ⌝ }
+    ensures { λ r. ⌜ r ≡ innerHolds (isHeld (tableOf (now (t .entry))) (now (lo .entry)) (now (hi .entry))) (isNumbered (now (lo .entry))) (n .0) (slotOf s) ⌝ }
 {
     let link = s.link;
     let above = s.parent;
@@ -26,6 +27,10 @@ pub fn inner_holds<'a>(t: &Table, lo: &'a [u16], hi: &'a [u16], n: Node, s: Slot
     let named = both(bare, above.0 != slot::number::NO_NODE);
     let larger = both(named, n.0 < above.0);
     if !larger {
+        return false;
+    }
+    let number = number_of(lo, n);
+    if number == 0 {
         return false;
     }
     touches_hold(t, lo, hi, n, next, link)

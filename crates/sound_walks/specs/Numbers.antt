@@ -2,7 +2,7 @@
 -- blossom has a stretch, which begins with the next number and ends before the one that is next when its ring is done. That the
 -- rings are those of S6, and the numbers of a stretch those of the defects inside, is proved in the crate `sound`.
 use Prim.Native.Nat.{ℕ, zero, suc, _+_, _%_, _^_}
-use mathlib.Core.Bool.{Bool, not, _&&_}
+use mathlib.Core.Bool.{Bool, _&&_}
 use mathlib.Core.List.{List}
 use lib.Dec.{eqb, leb}
 use lib.ListN.{getD, set}
@@ -31,9 +31,6 @@ begun n w = numbersOf (set (w .lo) n (w .free)) (w .hi) (w .free)
 
 abbrev pub ended : ℕ → Numbers → Numbers
 ended n w = numbersOf (w .lo) (set (w .hi) n (w .free)) (w .free)
-
-abbrev pub isNumbered : List ℕ → ℕ → Bool
-isNumbered l n = not (eqb (getD l n 0) 0)
 
 -- n is a node of b's ring that has no number yet
 abbrev pub isNext : Table → List ℕ → ℕ → ℕ → Bool

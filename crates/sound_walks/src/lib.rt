@@ -4,5 +4,4 @@ pub mod children;
 pub mod depths;
 pub mod marks;
 pub mod numbers;
-pub mod rings;
 pub mod ways;

@@ -1,6 +1,6 @@
 use borrow.Author.Needs.{needs}
 use Rattle.sound.proofs.Passes.{from-end, from-stop, from-more}
-use Rattle.sound_slots.specs.Links.{isHeld}
+use Rattle.sound_slots.specs.Links.{isHeld, isNumbered}
 use Rattle.sound_walks.specs.Pass.{allFrom}
 use Rattle.sound.specs.OneSlot.{slotHolds}
 use Rattle.table.specs.Words.{tableOf}
@@ -11,7 +11,7 @@ use Rattle.sound.proofs.slots.slots_hold.Statement.{statement}
 use Rattle.sound.proofs.slots.slots_hold.Tie as tie
 
 abbrev Inv-loop : tie.InvT-loop
-Inv-loop t lo hi from to i₀ i = allFrom (slotHolds (tableOf t) (isHeld (tableOf t) lo hi)) (to - i) i ≡ allFrom (slotHolds (tableOf t) (isHeld (tableOf t) lo hi)) (to - from) from
+Inv-loop t lo hi from to i₀ i = allFrom (slotHolds (tableOf t) (isHeld (tableOf t) lo hi) (isNumbered lo)) (to - i) i ≡ allFrom (slotHolds (tableOf t) (isHeld (tableOf t) lo hi) (isNumbered lo)) (to - from) from
 
 abbrev μ-loop : tie.MeasureT-loop
 μ-loop t lo hi from to i₀ i = to - i
