@@ -28,7 +28,7 @@ use Rattle.theorems_soundness.proofs.Climbing.{inside→, →inside}
 use Rattle.theorems_soundness.proofs.RingLaws.{ring-once, ring-goes-on}
 use Rattle.theorems_soundness.proofs.InsideLaws.{inside-self, inside-ring-node, inside-join, inside-ring, one-outer}
 use Rattle.sound_slots.specs.Links.{isHeld}
-use Rattle.sound_walks.specs.Numbers.{Numbers, numbersOf, begun, ended, isNext, isOddRing, nodeBy, ringFrom, nodeNumbered, outerNumbered, outersNumbered}
+use Rattle.sound_walks.specs.Numbers.{Numbers, numbersOf, begun, ended, isNext, isOddRing, blossomBy, nodeBy, ringFrom, blossomNumbered, nodeNumbered, outerNumbered, outersNumbered}
 use Rattle.sound.specs.Given.{unseen, numbersFrom, heldIn, numberedIn}
 use Rattle.sound.proofs.Nests.{Nest, ring-node-lower, not-above, one-ring-node, holder-blossom, home, ring-short, comes-back, goes-on}
 use Rattle.sound.proofs.Filled.{Fits, blank, begun-fits}
@@ -102,7 +102,8 @@ module _ (t : Table) (full : Full t) (nest : Nest t) where
           go [] p s m o u q z l = absurd (omega arith)
           go (d ∷ ds) p s m o u q z l = ih n (at t n .ring) (at t n .ring) 0 d ds (begun n w) p s m o u q (begun-fits w f n below bare) z
 
-      stretch : Covers t (Inside t n) w (ended n (ringFrom k t n (at t n .ring) (at t n .ring) 0 (begun n w)))
+      stretch : Covers t (Inside t n) w (blossomNumbered k t n w)
+      unfolding blossomBy
       stretch = covers-blossom t nest n w f below bare (ringFrom k t n (at t n .ring) (at t n .ring) 0 (begun n w)) (Within (ring .list)) around b outside within inward
 
     node-covers : Covers t (Inside t n) w (nodeNumbered k t n w)
@@ -209,9 +210,9 @@ module _ (t : Table) (full : Full t) (nest : Nest t) where
   Inners k i y = (o : ℕ) × (i ≤ o) × (o < i + k) × T (outer t o) × Inside t o y
 
   abbrev OutersCover : ℕ → ℕ → Type 0
-  OutersCover k i = (w : Numbers) → Fits w → ((y : ℕ) → Inners k i y → numberIn w y ≡ 0) → Covers t (Inners k i) w (outersNumbered t k i w)
+  OutersCover k i = t .begin ≤ i → (w : Numbers) → Fits w → ((y : ℕ) → Inners k i y → numberIn w y ≡ 0) → Covers t (Inners k i) w (outersNumbered t k i w)
 
-  module _ (k i : ℕ) (ih : OutersCover k (suc i)) (w : Numbers) (f : Fits w) (un : (y : ℕ) → Inners (suc k) i y → numberIn w y ≡ 0) where
+  module _ (k i : ℕ) (ih : OutersCover k (suc i)) (blossom : t .begin ≤ i) (w : Numbers) (f : Fits w) (un : (y : ℕ) → Inners (suc k) i y → numberIn w y ≡ 0) where
     later : (y : ℕ) → Inners k (suc i) y → Inners (suc k) i y
     later y s = (s .0, omega (arith, s .1), omega (arith, s .2), s .3, s .4)
 
@@ -219,16 +220,16 @@ module _ (t : Table) (full : Full t) (nest : Nest t) where
       here : (y : ℕ) → Inside t i y → Inners (suc k) i y
       here y a = (i, omega arith, omega arith, o, a)
 
-      one : Covers t (Inside t i) w (nodeNumbered 65536 t i w)
+      one : Covers t (Inside t i) w (blossomNumbered 65536 t i w)
       one =
           let p = outer-present (at t i .state) o in
-          node-covers 65536 (ring-covers 65536) i w (omega (arith, nest .low i p)) p f (λ y a. un y (here y a))
+          stretch 65536 (ring-covers 65536) i w (omega (arith, nest .low i p)) p f (λ y a. un y (here y a)) blossom
 
       others : (y : ℕ) → Inside t i y → ¬ Inners k (suc i) y
       others y a s = omega (arith, one-outer t i (s .0) y o (s .3) a (s .4), s .1)
 
-      rest : Covers t (Inners k (suc i)) (nodeNumbered 65536 t i w) (outersNumbered t k (suc i) (nodeNumbered 65536 t i w))
-      rest = ih (nodeNumbered 65536 t i w) (one .fits) (λ y s. one .elsewhere y (λ a. others y a s) .0 ∙ un y (later y s))
+      rest : Covers t (Inners k (suc i)) (blossomNumbered 65536 t i w) (outersNumbered t k (suc i) (blossomNumbered 65536 t i w))
+      rest = ih (omega arith) (blossomNumbered 65536 t i w) (one .fits) (λ y s. one .elsewhere y (λ a. others y a s) .0 ∙ un y (later y s))
 
       part : (y : ℕ) → Inners (suc k) i y → Inside t i y ⊎ Inners k (suc i) y
       part y s = elim (same-or-not (s .0) i) [ inl e ↦ inl (rw e at (s .4)) | inr d ↦ inr (s .0, omega (arith, s .1, d), omega (arith, s .2), s .3, s .4) ]
@@ -237,10 +238,10 @@ module _ (t : Table) (full : Full t) (nest : Nest t) where
       whole y (inl a) = here y a
       whole y (inr s) = later y s
 
-      together : Covers t (Inners (suc k) i) w (outersNumbered t k (suc i) (nodeNumbered 65536 t i w))
+      together : Covers t (Inners (suc k) i) w (outersNumbered t k (suc i) (blossomNumbered 65536 t i w))
       together =
-          covers-same t (λ y. Inside t i y ⊎ Inners k (suc i) y) (Inners (suc k) i) w (outersNumbered t k (suc i) (nodeNumbered 65536 t i w)) whole part
-          (covers-joined t (Inside t i) (Inners k (suc i)) w (nodeNumbered 65536 t i w) (outersNumbered t k (suc i) (nodeNumbered 65536 t i w)) one rest others
+          covers-same t (λ y. Inside t i y ⊎ Inners k (suc i) y) (Inners (suc k) i) w (outersNumbered t k (suc i) (blossomNumbered 65536 t i w)) whole part
+          (covers-joined t (Inside t i) (Inners k (suc i)) w (blossomNumbered 65536 t i w) (outersNumbered t k (suc i) (blossomNumbered 65536 t i w)) one rest others
           (λ x d a j. inside-join t i x d j a)
           (λ x d s j. (s .0, s .1, s .2, s .3, inside-join t (s .0) x d j (s .4))))
 
@@ -249,20 +250,20 @@ module _ (t : Table) (full : Full t) (nest : Nest t) where
       not-here y s = (s .0, elim (same-or-not (s .0) i) [ inl e ↦ absurd (o (rw e at (s .3))) | inr d ↦ omega (arith, s .1, d) ], omega (arith, s .2), s .3, s .4)
 
       without : Covers t (Inners (suc k) i) w (outersNumbered t k (suc i) w)
-      without = covers-same t (Inners k (suc i)) (Inners (suc k) i) w (outersNumbered t k (suc i) w) later not-here (ih w f (λ y s. un y (later y s)))
+      without = covers-same t (Inners k (suc i)) (Inners (suc k) i) w (outersNumbered t k (suc i) w) later not-here (ih (omega arith) w f (λ y s. un y (later y s)))
 
     outers-step : Covers t (Inners (suc k) i) w (outersNumbered t (suc k) i w)
     unfolding outersNumbered outerNumbered
     outers-step =
         elim (test-case (outer t i)) [
-          | inl o ↦ rw (test-true (outer t i) o, unbroken (nodeNumbered 65536 t i w) (one o .fits)) (together o)
+          | inl o ↦ rw (test-true (outer t i) o, unbroken (blossomNumbered 65536 t i w) (one o .fits)) (together o)
           | inr h ↦ let o = T-not (outer t i) h in rw (test-false (outer t i) o, unbroken w f) (without o)
         ]
 
   outers-cover : (k i : ℕ) → OutersCover k i
   unfolding outersNumbered
-  outers-cover zero i w f un = covers-none t (Inners 0 i) w f (λ y s. omega (arith, s .1, s .2))
-  outers-cover (suc k) i w f un = outers-step k i (outers-cover k (suc i)) w f un
+  outers-cover zero i b w f un = covers-none t (Inners 0 i) w f (λ y s. omega (arith, s .1, s .2))
+  outers-cover (suc k) i b w f un = outers-step k i (outers-cover k (suc i)) b w f un
 
   -- ---- all of them
 
@@ -281,7 +282,7 @@ module _ (t : Table) (full : Full t) (nest : Nest t) where
 
   all : Covers t Held start numbers
   unfolding numbersFrom
-  all = outers-cover (t .begin + t .blossoms - t .begin) (t .begin) start start-fits (λ y s. blank y)
+  all = outers-cover (t .begin + t .blossoms - t .begin) (t .begin) (omega arith) start start-fits (λ y s. blank y)
 
   -- a defect has no stretch
   no-stretch : (x : ℕ) → x < t .begin → endIn numbers x ≡ 0

@@ -25,7 +25,7 @@ use Rattle.theorems_soundness.proofs.ReflectSlots.{inner-present, outer-present
 use Rattle.theorems_soundness.proofs.Past.{present-below, present-some}
 use Rattle.theorems_soundness.proofs.Chains.{chain-unique}
 use Rattle.theorems_soundness.proofs.RingLaws.{ring-goes-on, ring-comes-back}
-use Rattle.sound_walks.specs.Numbers.{Numbers, numbersOf, counted, begun, ended, isNext, isOddRing, broken, closed, nodeBy, ringFrom, nodeNumbered, outerNumbered, outersNumbered}
+use Rattle.sound_walks.specs.Numbers.{Numbers, numbersOf, counted, begun, ended, isNext, isOddRing, broken, blossomBy, nodeBy, ringFrom, blossomNumbered, nodeNumbered, outerNumbered, outersNumbered}
 use Rattle.sound_walks.proofs.Truth.{and-left, and-right}
 use Rattle.sound.specs.Given.{unseen, numbersFrom}
 use Rattle.sound.proofs.Nests.{state-case}
@@ -188,18 +188,19 @@ module _ (t : Table) (full : Full t) where
       numbered-blossom : 1 ≤ numberIn (ended n v) n
       numbered-blossom = r .found .stays n (omega (arith, here, l))
 
+    blossom-found : (k : ℕ) → RingFound k → t .begin ≤ n → 1 ≤ blossomNumbered k t n w .free → Found t (λ y. y ≡ n) w (blossomNumbered k t n w) × (1 ≤ numberIn (blossomNumbered k t n w) n)
+    unfolding blossomBy
+    blossom-found k ih b o =
+        let i = ring-begins k n (at t n .ring) (at t n .ring) 0 (begun n w) o in
+        let r = ih n (at t n .ring) (at t n .ring) 0 (begun n w) (inner-some (at t n .ring) (i .0)) (length-set (w .lo) n (w .free) ∙ size) l o in
+        (found-blossom b (ringFrom k t n (at t n .ring) (at t n .ring) 0 (begun n w)) r, numbered-blossom b (ringFrom k t n (at t n .ring) (at t n .ring) 0 (begun n w)) r)
+
     node-found : (k : ℕ) → RingFound k → 1 ≤ nodeNumbered k t n w .free → Found t (λ y. y ≡ n) w (nodeNumbered k t n w) × (1 ≤ numberIn (nodeNumbered k t n w) n)
     unfolding nodeBy
     node-found k ih s =
         elim (decLt n (t .begin)) [
           | yes b ↦ rw (lt-leb (t .begin) n b) (found-defect b, omega (arith, here, l))
-          | no g ↦
-              let b : t .begin ≤ n = omega arith in
-              let u : ℕ = at t n .ring in
-              let o : 1 ≤ ringFrom k t n (at t n .ring) (at t n .ring) 0 (begun n w) .free = rw (le-leb (t .begin) n b) at s in
-              let i = ring-begins k n (at t n .ring) (at t n .ring) 0 (begun n w) o in
-              let r = ih n (at t n .ring) (at t n .ring) 0 (begun n w) (inner-some (at t n .ring) (i .0)) (length-set (w .lo) n (w .free) ∙ size) l o in
-              rw (le-leb (t .begin) n b) (found-blossom b (ringFrom k t n (at t n .ring) (at t n .ring) 0 (begun n w)) r, numbered-blossom b (ringFrom k t n (at t n .ring) (at t n .ring) 0 (begun n w)) r)
+          | no g ↦ let b : t .begin ≤ n = omega arith in rw (le-leb (t .begin) n b) (blossom-found k ih b (rw (le-leb (t .begin) n b) at s))
         ]
 
   -- ---- a ring
@@ -258,14 +259,14 @@ module _ (t : Table) (full : Full t) where
     found : Found t (λ y. T (outer t y)) w u
     all : (o : ℕ) → i ≤ o → o < i + k → T (outer t o) → 1 ≤ numberIn u o
 
-  outer-found : (i : ℕ) (w : Numbers) → length (w .lo) ≡ 256 → 1 ≤ w .free → 1 ≤ outerNumbered t i w .free → Found t (λ y. T (outer t y)) w (outerNumbered t i w) × (T (outer t i) → 1 ≤ numberIn (outerNumbered t i w) i)
+  outer-found : (i : ℕ) → t .begin ≤ i → (w : Numbers) → length (w .lo) ≡ 256 → 1 ≤ w .free → 1 ≤ outerNumbered t i w .free → Found t (λ y. T (outer t y)) w (outerNumbered t i w) × (T (outer t i) → 1 ≤ numberIn (outerNumbered t i w) i)
   unfolding outerNumbered
-  outer-found i w size l h =
+  outer-found i b w size l h =
       elim (test-case (outer t i)) [
         | inl o ↦
             let e = test-true (outer t i) o in
-            let r = node-found i w (outer-present (at t i .state) o) size l 65536 (ring-found 65536) (rw e at h) in
-            rw e (found-joined t (λ y. y ≡ i) (λ y. T (outer t y)) (λ y. T (outer t y)) w (nodeNumbered 65536 t i w) (nodeNumbered 65536 t i w) (λ y q. rw q o) (λ y q. q) (r .0) (found-none t (λ y. T (outer t y)) (nodeNumbered 65536 t i w)), λ _. r .1)
+            let r = blossom-found i w (outer-present (at t i .state) o) size l 65536 (ring-found 65536) b (rw e at h) in
+            rw e (found-joined t (λ y. y ≡ i) (λ y. T (outer t y)) (λ y. T (outer t y)) w (blossomNumbered 65536 t i w) (blossomNumbered 65536 t i w) (λ y q. rw q o) (λ y q. q) (r .0) (found-none t (λ y. T (outer t y)) (blossomNumbered 65536 t i w)), λ _. r .1)
         | inr d ↦ rw (test-false (outer t i) (T-not (outer t i) d)) (found-none t (λ y. T (outer t y)) w, λ o. absurd o)
       ]
 
@@ -284,16 +285,16 @@ module _ (t : Table) (full : Full t) where
           all = λ o p q s. elim (same-or-not o i) [ inl e ↦ rw e (r .found .stays i (h (rw e at s))) | inr d ↦ r .all o (omega (arith, d)) (omega arith) s ];
         }
 
-  outers-found : (k i : ℕ) (w : Numbers) → length (w .lo) ≡ 256 → 1 ≤ w .free → 1 ≤ outersNumbered t k i w .free → OutersFound k i w (outersNumbered t k i w)
+  outers-found : (k i : ℕ) → t .begin ≤ i → (w : Numbers) → length (w .lo) ≡ 256 → 1 ≤ w .free → 1 ≤ outersNumbered t k i w .free → OutersFound k i w (outersNumbered t k i w)
   unfolding outersNumbered
-  outers-found zero i w size l h = record { found = found-none t (λ y. T (outer t y)) w; all = λ o p q. absurd (omega arith) }
-  outers-found (suc k) i w size l h =
+  outers-found zero i b w size l h = record { found = found-none t (λ y. T (outer t y)) w; all = λ o p q. absurd (omega arith) }
+  outers-found (suc k) i b w size l h =
       let x = outers-view (outerNumbered t i w) (outersNumbered t k (suc i) (outerNumbered t i w)) h in
-      let p = outer-found i w size l (x .0) in
+      let p = outer-found i b w size l (x .0) in
       let g : 1 ≤ outersNumbered t k (suc i) (outerNumbered t i w) .free = rw (x .1) at h in
       rw (x .1)
       (outers-joined k i w (outerNumbered t i w) (outersNumbered t k (suc i) (outerNumbered t i w)) (p .0) (p .1)
-      (outers-found k (suc i) (outerNumbered t i w) (p .0 .size ∙ size) (x .0) g))
+      (outers-found k (suc i) (omega arith) (outerNumbered t i w) (p .0 .size ∙ size) (x .0) g))
 
 -- ---- the rings of S6, where every inner node has a number
 
@@ -308,7 +309,7 @@ module _ (t : Table) (full : Full t)
 
     whole : OutersFound t full (t .begin + t .blossoms - t .begin) (t .begin) (numbersOf unseen unseen 1) numbers
     unfolding numbersFrom
-    whole = outers-found t full (t .begin + t .blossoms - t .begin) (t .begin) (numbersOf unseen unseen 1) (length-replicate {A = ℕ} 256 0) (omega arith) unbroken
+    whole = outers-found t full (t .begin + t .blossoms - t .begin) (t .begin) (omega arith) (numbersOf unseen unseen 1) (length-replicate {A = ℕ} 256 0) (omega arith) unbroken
 
     -- the parent of an inner node is a blossom, and has it on its ring
     pub ring-owner : (n : ℕ) → T (inner t n) → Owned t n

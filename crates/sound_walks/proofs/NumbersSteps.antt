@@ -11,7 +11,7 @@ use Rattle.lists.specs.Choice.{pick}
 use Rattle.lists.proofs.Budget.{fewer, one-left, none-left}
 use Rattle.table.specs.Table.{Table, at}
 use Rattle.table.specs.Nodes.{isBlossom, outer, inner}
-use Rattle.sound_walks.specs.Numbers.{Numbers, numbersOf, isNext, isOddRing, nodeBy, onward, ringFrom, ringNumbered, nodeNumbered, outerNumbered, outersNumbered}
+use Rattle.sound_walks.specs.Numbers.{Numbers, numbersOf, isNext, isOddRing, blossomBy, nodeBy, onward, ringFrom, ringNumbered, blossomNumbered, nodeNumbered, outerNumbered, outersNumbered}
 
 pub next-step :
     (t : Table) (l : List ℕ) (b n above number : ℕ) (inside owned r : Bool)
@@ -25,20 +25,24 @@ next-step t l b n above number inside owned r e f g h i = i ∙ rw (h, e, f, g)
 
 -- ---- a node
 
-module _ (t : Table) (n k left : ℕ) (lo hi m : List ℕ) (f : m ≡ set lo n k) (b : Bool) (e : b ≡ isBlossom t n) where
-  pub node-defect : (r : ℕ) → b ≡ false → r ≡ (k + 1) % 2 ^ 16 → numbersOf m hi r ≡ nodeNumbered left t n (numbersOf lo hi k)
-  unfolding nodeBy
-  node-defect r h g = let u : isBlossom t n ≡ false = sym e ∙ h in rw (u, f, g)
+pub blossom-step :
+    (t : Table) (n k left : ℕ) (lo hi m : List ℕ) (first r : ℕ) (l g h : List ℕ)
+    → m ≡ set lo n k
+    → first ≡ at t n .ring
+    → numbersOf l g r ≡ ringNumbered left t n first (numbersOf m hi k)
+    → h ≡ set g n r
+    → numbersOf l h r ≡ blossomNumbered left t n (numbersOf lo hi k)
+unfolding blossomBy
+blossom-step t n k left lo hi m first r l g h f p v s = rw (← f, ← p, ← v, s)
 
-  pub node-blossom :
-      (first r : ℕ) (l g h : List ℕ)
-      → b ≡ true
-      → first ≡ at t n .ring
-      → numbersOf l g r ≡ ringNumbered left t n first (numbersOf m hi k)
-      → h ≡ set g n r
-      → numbersOf l h r ≡ nodeNumbered left t n (numbersOf lo hi k)
+module _ (t : Table) (n k left : ℕ) (lo hi : List ℕ) (b : Bool) (e : b ≡ isBlossom t n) where
+  pub node-blossom : (w : Numbers) → b ≡ true → w ≡ blossomNumbered left t n (numbersOf lo hi k) → w ≡ nodeNumbered left t n (numbersOf lo hi k)
   unfolding nodeBy
-  node-blossom first r l g h q p v s = let u : isBlossom t n ≡ true = sym e ∙ q in rw (u, ← f, ← p, ← v, s)
+  node-blossom w h q = let u : isBlossom t n ≡ true = sym e ∙ h in q ∙ rw u
+
+  pub node-defect : (m : List ℕ) (r : ℕ) → b ≡ false → m ≡ set lo n k → r ≡ (k + 1) % 2 ^ 16 → numbersOf m hi r ≡ nodeNumbered left t n (numbersOf lo hi k)
+  unfolding nodeBy
+  node-defect m r h f g = let u : isBlossom t n ≡ false = sym e ∙ h in rw (u, f, g)
 
 -- ---- a ring
 
@@ -106,7 +110,7 @@ module _ (t : Table) (i : ℕ) (w : Numbers) where
     unfolding outerNumbered
     outer-none h = let u : outer t i ≡ false = sym e ∙ h in rw u
 
-    pub outer-some : (v : Numbers) → g ≡ true → v ≡ nodeNumbered 65536 t i w → v ≡ outerNumbered t i w
+    pub outer-some : (v : Numbers) → g ≡ true → v ≡ blossomNumbered 65536 t i w → v ≡ outerNumbered t i w
     unfolding outerNumbered
     outer-some v h q = let u : outer t i ≡ true = sym e ∙ h in q ∙ rw u
 

@@ -36,10 +36,14 @@ ended n w = numbersOf (w .lo) (set (w .hi) n (w .free)) (w .free)
 abbrev pub isNext : Table → List ℕ → ℕ → ℕ → Bool
 isNext t l b n = isInnerChild t b n && eqb (getD l n 0) 0
 
--- n and what is inside it; `ring` numbers the ring of a blossom
+-- a blossom and what is inside it; `ring` numbers its ring
+unfoldable pub blossomBy : (ℕ → ℕ → Numbers → Numbers) → Table → ℕ → Numbers → Numbers
+blossomBy ring t n w = ended n (ring n (at t n .ring) (begun n w))
+
+-- a node and what is inside it
 unfoldable pub nodeBy : (ℕ → ℕ → Numbers → Numbers) → Table → ℕ → Numbers → Numbers
 nodeBy ring t n w =
-    let stretch = ended n (ring n (at t n .ring) (begun n w)) in
+    let stretch = blossomBy ring t n w in
     let number = counted n w in
     pick (isBlossom t n) stretch number
 
@@ -70,12 +74,15 @@ ringFrom (suc k) t b first n c w =
 abbrev pub ringNumbered : ℕ → Table → ℕ → ℕ → Numbers → Numbers
 ringNumbered k t b first w = ringFrom k t b first first 0 w
 
+abbrev pub blossomNumbered : ℕ → Table → ℕ → Numbers → Numbers
+blossomNumbered k t n w = blossomBy (ringNumbered k t) t n w
+
 abbrev pub nodeNumbered : ℕ → Table → ℕ → Numbers → Numbers
 nodeNumbered k t n w = nodeBy (ringNumbered k t) t n w
 
--- 256 nodes in each of 256 rings, one inside the other
+-- an outer blossom; there can be 256 nodes in each of 256 rings, one inside the other
 unfoldable pub outerNumbered : Table → ℕ → Numbers → Numbers
-outerNumbered t i w = let node = nodeNumbered 65536 t i w in pick (outer t i) node w
+outerNumbered t i w = let stretch = blossomNumbered 65536 t i w in pick (outer t i) stretch w
 
 -- the outer ones of k slots, from i on, up to one with a ring that is none
 unfoldable pub outersNumbered : Table → ℕ → ℕ → Numbers → Numbers

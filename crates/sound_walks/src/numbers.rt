@@ -12,7 +12,7 @@ ghost use mathlib.Core.Path.{_≡_};
 ghost use Prim.Native.Nat.{_+_, _-_, _%_, _^_};
 ghost use Rattle.lists.specs.Choice.{pick};
 ghost use Rattle.table.specs.Words.{tableOf};
-ghost use Rattle.sound_walks.specs.Numbers.{numbersOf, isNext, isOddRing, ringNumbered, nodeNumbered, outerNumbered, outersNumbered};
+ghost use Rattle.sound_walks.specs.Numbers.{numbersOf, isNext, isOddRing, ringNumbered, blossomNumbered, nodeNumbered, outerNumbered, outersNumbered};
 
 // A node of b's ring that has no number yet.
 fn is_next(t: &Table, lo: &[u16], b: Node, n: Node) -> bool
@@ -77,18 +77,26 @@ fn number_ring(
     }
 }
 
-// A node and what is inside it.
+// A blossom and what is inside it.
+fn number_blossom(t: &Table, lo: &mut [u16], hi: &mut [u16], b: Node, k: u16, left: u32) -> u16
+    ensures { λ r. ⌜ numbersOf (now (lo .exit)) (now (hi .exit)) r ≡ blossomNumbered left (tableOf (now (t .entry))) (b .0) (numbersOf (now (lo .entry)) (now (hi .entry)) k) ⌝ }
+{
+    set_number(lo, b, k);
+    let first = table::field::get_first_blossom_child(t, b);
+    let end = number_ring(t, lo, hi, b, first, k, left);
+    set_number(hi, b, end);
+    end
+}
+
+// A node of a ring and what is inside it.
 fn number_node(t: &Table, lo: &mut [u16], hi: &mut [u16], n: Node, k: u16, left: u32) -> u16
     ensures { λ r. ⌜ numbersOf (now (lo .exit)) (now (hi .exit)) r ≡ nodeNumbered left (tableOf (now (t .entry))) (n .0) (numbersOf (now (lo .entry)) (now (hi .entry)) k) ⌝ }
 {
-    set_number(lo, n, k);
-    if !table::field::is_blossom(t, n) {
-        return std::num::wrapping_add_u16(k, 1);
+    if table::field::is_blossom(t, n) {
+        return number_blossom(t, lo, hi, n, k, left);
     }
-    let first = table::field::get_first_blossom_child(t, n);
-    let end = number_ring(t, lo, hi, n, first, k, left);
-    set_number(hi, n, end);
-    end
+    set_number(lo, n, k);
+    std::num::wrapping_add_u16(k, 1)
 }
 
 fn number_outer(t: &Table, lo: &mut [u16], hi: &mut [u16], n: Node, k: u16) -> u16
@@ -97,7 +105,7 @@ fn number_outer(t: &Table, lo: &mut [u16], hi: &mut [u16], n: Node, k: u16) -> u
     if !table::field::is_outer(t, n) {
         return k;
     }
-    number_node(t, lo, hi, n, k, 65536)
+    number_blossom(t, lo, hi, n, k, 65536)
 }
 
 // The outer ones of the slots from one number to before another.

@@ -13,4 +13,4 @@ number-outer-spec =
     (λ c κs. search needs)
     (λ c. search needs)
     (λ c. search needs)
-    (λ c. outer-some _ _ _ _ (c .before .before .before .before .before .before .before .before .is-outer .ensures) _ (not-false _ (c .before .before .before .before .before .before .before .if1 .left)) (c .before .before .before .before .number-node .ensures)))
+    (λ c. outer-some _ _ _ _ (c .before .before .before .before .before .before .before .before .is-outer .ensures) _ (not-false _ (c .before .before .before .before .before .before .before .if1 .left)) (c .before .before .before .before .number-blossom .ensures)))
