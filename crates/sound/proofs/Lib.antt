@@ -5,4 +5,9 @@ pub mod Whole
 pub mod SlotKinds
 pub mod SlotsSound
 pub mod SlotTests
+pub mod Nests
+pub mod Filled
+pub mod Stretches
+pub mod InsideByNumbers
+pub mod RingsWalked
 pub mod Checked

@@ -1,7 +1,7 @@
 -- What the tests of single slots say as facts: what an outer node is, what an inner node is, and S8.
 use mathlib.Core.Path.{_≡_, refl, sym, ap, _∙_}
 use mathlib.Core.Logic.{_≢_, _⊎_, inl, inr}
-use mathlib.Core.Bool.{not, _&&_, _||_}
+use mathlib.Core.Bool.{Bool, not, _&&_}
 use Prim.Native.Nat.{ℕ, _<_}
 use native.Mathlib.Omega.{arith}
 use lib.Dec.{T, eqb, ltb}
@@ -12,8 +12,7 @@ use Rattle.slot.specs.Number.{none}
 use Rattle.slot.specs.Slot.{Link, Slot, emptySlot, noLink, mirror}
 use Rattle.slot.specs.State.{isPresent, isOuter}
 use Rattle.table.specs.Table.{Table, at, Full}
-use Rattle.table.specs.Nodes.{isBlossom, isDefect, present, outer, inner}
-use Rattle.table.specs.Climb.{inside}
+use Rattle.table.specs.Nodes.{isBlossom, present, outer, inner}
 use Rattle.rules.specs.Slots.{isNone, isSome, sameLink, isGrow, isShrink, up, next}
 use Rattle.rules.specs.Sound.{_⇒_, farEnd, isDefectInside, s8}
 use Rattle.theorems_soundness.specs.Facts.{Sizes}
@@ -23,50 +22,44 @@ use Rattle.theorems_soundness.proofs.Reflect.{tests, test-case, and→, →and,
 use Rattle.theorems_soundness.proofs.ReflectSlots.{stay↔, grow↔, shrink↔, inner↔, not-present↔, sameLink↔, grow-shrink}
 use Rattle.theorems_soundness.proofs.Past.{present-some}
 use Rattle.theorems_soundness.proofs.KindLaws.{far-end-paired, far-end-tree, far-end-inner}
-use Rattle.sound_slots.specs.Links.{isThrough, isFarTouch, touchesHold, ringPlaced, pointsBack, pairHolds}
+use Rattle.sound_slots.specs.Links.{isThrough, touchesHold, ringPlaced, pointsBack, pairHolds}
 use Rattle.sound_slots.specs.States.{innerHolds, stayHolds, growHolds, shrinkHolds}
 use Rattle.sound.specs.OneSlot.{ruleOf, slotHolds}
 
 -- a slot that is given out and judged, or an empty one
-module _ (t : Table) (full : Full t) (sizes : Sizes t)
-    (judged : (n : ℕ) → T (present t n) → T (slotHolds t n))
+module _ (t : Table) (full : Full t) (sizes : Sizes t) (held : ℕ → ℕ → Bool) (numbered : ℕ → Bool)
+    (defect : (x n : ℕ) → T (held x n) → n < t .begin)
+    (judged : (n : ℕ) → T (present t n) → T (slotHolds t held numbered n))
     (empty : (n : ℕ) → at t n .state ≡ S.Empty → at t n ≡ emptySlot)
   where
-    rule : (n : ℕ) (x : State) → at t n .state ≡ x → T (isPresent x) → T (ruleOf x t n (at t n))
+    rule : (n : ℕ) (x : State) → at t n .state ≡ x → T (isPresent x) → T (ruleOf x t held numbered n (at t n))
     unfolding slotHolds
     rule n x e p = rw (← e) (and→ (ringPlaced t n (at t n .ring)) _ (judged n (rw e p)) .1)
 
     -- a touch that is a defect is not none
-    some-touch : (n x : ℕ) → T (isDefectInside t x n) → n ≢ none
-    some-touch n x h = let r = simp tests at h in let b = sizes .begin-fits in λ e. omega (arith, r .0, b, e)
+    some-touch : (n x : ℕ) → T (held x n) → n ≢ none
+    some-touch n x h = let l = defect x n h in let b = sizes .begin-fits in λ e. omega (arith, l, b, e)
 
-    some-far-touch : (n far : ℕ) → T (isFarTouch t far n) → n ≢ none
-    some-far-touch n far h =
-        let q = and→ (isDefect t n) (eqb n (at t far .link .touch) || inside t far n) h in
-        let l : n < t .begin = simp tests at (q .0) in
-        let b = sizes .begin-fits in
-        λ e. omega (arith, l, b, e)
-
-    full-link : (n far : ℕ) (l : Link) → T (isThrough l) → T (touchesHold t n far l) → FullLink l
+    full-link : (n far : ℕ) (l : Link) → T (isThrough l) → T (touchesHold held n far l) → FullLink l
     unfolding touchesHold
     full-link n far l h k =
         let r = simp tests at h in
-        let q = and→ (isDefectInside t n (l .touch)) (isFarTouch t far (l .peerTouch)) k in
-        record { has-touch = some-touch (l .touch) n (q .0); has-through = r .0; has-peer-touch = some-far-touch (l .peerTouch) far (q .1); has-peer-through = r .1 }
+        let q = and→ (held n (l .touch)) (held far (l .peerTouch)) k in
+        record { has-touch = some-touch (l .touch) n (q .0); has-through = r .0; has-peer-touch = some-touch (l .peerTouch) far (q .1); has-peer-through = r .1 }
 
     -- ---- Stay
 
     module _ (n : ℕ) (e : at t n .state ≡ S.Stay) where
       stay-parts : T (isThrough (at t n .link) && isNone (up t n) && isNone (at t n .firstChild))
-          × T (pick (isNone (next t n)) (isNone (at t n .link .peerTouch) && isDefectInside t n (at t n .link .touch)) (pairHolds t n (at t n) && touchesHold t n (next t n) (at t n .link)))
+          × T (pick (isNone (next t n)) (isNone (at t n .link .peerTouch) && held n (at t n .link .touch)) (pairHolds t n (at t n) && touchesHold held n (next t n) (at t n .link)))
       unfolding stayHolds
       stay-parts = and→ (isThrough (at t n .link) && isNone (up t n) && isNone (at t n .firstChild)) _ (rule n S.Stay e tt)
 
       stay-virtual : next t n ≡ none → Virtual (at t n)
       stay-virtual f =
           let r = simp tests at (stay-parts .0) in
-          let h : T (isNone (at t n .link .peerTouch) && isDefectInside t n (at t n .link .touch)) = rw f at (stay-parts .1) in
-          let q = and→ (isNone (at t n .link .peerTouch)) (isDefectInside t n (at t n .link .touch)) h in
+          let h : T (isNone (at t n .link .peerTouch) && held n (at t n .link .touch)) = rw f at (stay-parts .1) in
+          let q = and→ (isNone (at t n .link .peerTouch)) (held n (at t n .link .touch)) h in
           record {
             stays = e;
             parentless = r .0 .1;
@@ -83,8 +76,8 @@ module _ (t : Table) (full : Full t) (sizes : Sizes t)
       stay-pair d =
           let g = and→ (isThrough (at t n .link) && isNone (up t n)) (isNone (at t n .firstChild)) (stay-parts .0) in
           let k = and→ (isThrough (at t n .link)) (isNone (up t n)) (g .0) in
-          let h : T (pairHolds t n (at t n) && touchesHold t n (next t n) (at t n .link)) = rw (eqb-no (next t n) none d) at (stay-parts .1) in
-          let q = and→ (pairHolds t n (at t n)) (touchesHold t n (next t n) (at t n .link)) h in (
+          let h : T (pairHolds t n (at t n) && touchesHold held n (next t n) (at t n .link)) = rw (eqb-no (next t n) none d) at (stay-parts .1) in
+          let q = and→ (pairHolds t n (at t n)) (touchesHold held n (next t n) (at t n .link)) h in (
             record {
               stays = e;
               parentless = simp tests at (k .1);
@@ -148,14 +141,14 @@ module _ (t : Table) (full : Full t) (sizes : Sizes t)
                   | inr c ↦ root-node (record { grows = e; has-child = c; parentless = u; siblingless = s; unlinked = l })
                 ]
             | inr u ↦
-                let k : T ((isThrough (at t n .link) && isShrink (at t (up t n) .state)) && touchesHold t n (up t n) (at t n .link)) = rw (eqb-no (up t n) none u) at (h .1) in
+                let k : T ((isThrough (at t n .link) && isShrink (at t (up t n) .state)) && touchesHold held n (up t n) (at t n .link)) = rw (eqb-no (up t n) none u) at (h .1) in
                 let q = and→ (isThrough (at t n .link) && isShrink (at t (up t n) .state)) _ k in
                 let r = and→ (isThrough (at t n .link)) (isShrink (at t (up t n) .state)) (q .0) in
                 plus-node (record { grows = e; linked = full-link n (up t n) (at t n .link) (r .0) (q .1); siblingless = s; parent-shrinks = shrink↔ _ .0 (r .1) })
           ]
 
     minus-parts : (n : ℕ) → at t n .state ≡ S.Shrink
-        → T (isThrough (at t n .link) && isGrow (at t (up t n) .state) && isSome (at t n .firstChild)) × T (touchesHold t n (up t n) (at t n .link))
+        → T (isThrough (at t n .link) && isGrow (at t (up t n) .state) && isSome (at t n .firstChild)) × T (touchesHold held n (up t n) (at t n .link))
     unfolding shrinkHolds
     minus-parts n e = and→ (isThrough (at t n .link) && isGrow (at t (up t n) .state) && isSome (at t n .firstChild)) _ (rule n S.Shrink e tt)
 
@@ -229,9 +222,17 @@ module _ (t : Table) (full : Full t) (sizes : Sizes t)
     -- ---- inner nodes
 
     inner-parts : (n : ℕ) → at t n .state ≡ S.Inner
-        → T (isThrough (at t n .link) && isNone (at t n .firstChild) && isSome (up t n) && ltb n (up t n)) × T (touchesHold t n (next t n) (at t n .link))
+        → T (isThrough (at t n .link) && isNone (at t n .firstChild) && isSome (up t n) && ltb n (up t n))
+        × T (numbered n)
+        × T (touchesHold held n (next t n) (at t n .link))
     unfolding innerHolds
-    inner-parts n e = and→ (isThrough (at t n .link) && isNone (at t n .firstChild) && isSome (up t n) && ltb n (up t n)) _ (rule n S.Inner e tt)
+    inner-parts n e =
+        let q = and→ (isThrough (at t n .link) && isNone (at t n .firstChild) && isSome (up t n) && ltb n (up t n)) _ (rule n S.Inner e tt) in
+        let r = and→ (numbered n) (touchesHold held n (next t n) (at t n .link)) (q .1) in
+        (q .0, r .0, r .1)
+
+    pub inner-numbered : (n : ℕ) → T (inner t n) → T (numbered n)
+    inner-numbered n i = inner-parts n (inner↔ _ .0 i) .1
 
     pub inner-child : (n : ℕ) → T (inner t n) → up t n ≢ none
     inner-child n i = let r = simp tests at (inner-parts n (inner↔ _ .0 i) .0) in r .0 .1
@@ -243,26 +244,26 @@ module _ (t : Table) (full : Full t) (sizes : Sizes t)
     in-blossom n i b =
         let h = inner-parts n (inner↔ _ .0 i) in
         let r = simp tests at (h .0) in
-        record { linked = full-link n (next t n) (at t n .link) (simp tests (r .0 .0 .0)) (h .1); childless = r .0 .0 .1; parent = b; larger = r .1 }
+        record { linked = full-link n (next t n) (at t n .link) (simp tests (r .0 .0 .0)) (h .2); childless = r .0 .0 .1; parent = b; larger = r .1 }
 
     -- ---- S8
 
     -- what a slot's link stores, and where it leads
     data Linked (n : ℕ) : Type 0 where
       unlinked : at t n .link ≡ noLink → Linked n
-      virtually : T (isDefectInside t n (at t n .link .touch)) → at t n .link .peerTouch ≡ none → Linked n
-      linked-to : (far : ℕ) → farEnd t n ≡ far → T (touchesHold t n far (at t n .link)) → Linked n
+      virtually : T (held n (at t n .link .touch)) → at t n .link .peerTouch ≡ none → Linked n
+      linked-to : (far : ℕ) → farEnd t n ≡ far → T (touchesHold held n far (at t n .link)) → Linked n
 
     stay-linked : (n : ℕ) → at t n .state ≡ S.Stay → Linked n
     stay-linked n e =
         elim (same-or-not (next t n) none) [
           | inl f ↦
-              let h : T (isNone (at t n .link .peerTouch) && isDefectInside t n (at t n .link .touch)) = rw f at (stay-parts n e .1) in
-              let q = and→ (isNone (at t n .link .peerTouch)) (isDefectInside t n (at t n .link .touch)) h in
+              let h : T (isNone (at t n .link .peerTouch) && held n (at t n .link .touch)) = rw f at (stay-parts n e .1) in
+              let q = and→ (isNone (at t n .link .peerTouch)) (held n (at t n .link .touch)) h in
               virtually (q .1) (simp tests at (q .0))
           | inr d ↦
-              let h : T (pairHolds t n (at t n) && touchesHold t n (next t n) (at t n .link)) = rw (eqb-no (next t n) none d) at (stay-parts n e .1) in
-              let q = and→ (pairHolds t n (at t n)) (touchesHold t n (next t n) (at t n .link)) h in
+              let h : T (pairHolds t n (at t n) && touchesHold held n (next t n) (at t n .link)) = rw (eqb-no (next t n) none d) at (stay-parts n e .1) in
+              let q = and→ (pairHolds t n (at t n)) (touchesHold held n (next t n) (at t n .link)) h in
               linked-to (next t n) (far-end-paired t n (next t n) (stay-paired n (rw e tt) e d)) (q .1)
         ]
 
@@ -273,7 +274,7 @@ module _ (t : Table) (full : Full t) (sizes : Sizes t)
         elim (same-or-not (up t n) none) [
           | inl u ↦ let k : T (sameLink (at t n .link) noLink) = rw u at (h .1) in unlinked (sameLink↔ (at t n .link) noLink .0 k)
           | inr u ↦
-              let k : T ((isThrough (at t n .link) && isShrink (at t (up t n) .state)) && touchesHold t n (up t n) (at t n .link)) = rw (eqb-no (up t n) none u) at (h .1) in
+              let k : T ((isThrough (at t n .link) && isShrink (at t (up t n) .state)) && touchesHold held n (up t n) (at t n .link)) = rw (eqb-no (up t n) none u) at (h .1) in
               linked-to (up t n) (far-end-tree t n (rw e tt) u) (and→ (isThrough (at t n .link) && isShrink (at t (up t n) .state)) _ k .1)
         ]
 
@@ -287,34 +288,18 @@ module _ (t : Table) (full : Full t) (sizes : Sizes t)
       where
         go : (x : State) → at t n .state ≡ x → Linked n
         go S.Empty e = unlinked (ap (λ (s : Slot). s .link) (empty n e))
-        go S.Inner e = linked-to (next t n) (far-end-inner t n (inner↔ _ .1 e)) (inner-parts n e .1)
+        go S.Inner e = linked-to (next t n) (far-end-inner t n (inner↔ _ .1 e)) (inner-parts n e .2)
         go S.Stay e = stay-linked n e
         go S.Grow e = grow-linked n e
         go S.Shrink e = shrink-linked n e
         go S.Damaged e = absurd (undamaged n e)
 
-    both-touches : (n far : ℕ) → T (touchesHold t n far (at t n .link)) → T (isDefectInside t n (at t n .link .touch)) × T (isFarTouch t far (at t n .link .peerTouch))
+    both-touches : (n far : ℕ) → T (touchesHold held n far (at t n .link)) → T (held n (at t n .link .touch)) × T (held far (at t n .link .peerTouch))
     unfolding touchesHold
-    both-touches n far h = and→ (isDefectInside t n (at t n .link .touch)) (isFarTouch t far (at t n .link .peerTouch)) h
+    both-touches n far h = and→ (held n (at t n .link .touch)) (held far (at t n .link .peerTouch)) h
 
-    -- a node's own touch is judged there
-    own-touch : (n : ℕ) → Linked n → at t n .link .touch ≢ none → T (isDefectInside t n (at t n .link .touch))
-    own-touch n (unlinked e) d = absurd (d (ap (λ (l : Link). l .touch) e))
-    own-touch n (virtually h e) d = h
-    own-touch n (linked-to far e h) d = both-touches n far h .0
-
-    -- .. so a peer touch that is the far end's own touch is inside it too
-    far-touch : (far n : ℕ) → T (isFarTouch t far n) → T (isDefectInside t far n)
-    far-touch far n h =
-        let q = and→ (isDefect t n) (eqb n (at t far .link .touch) || inside t far n) h in
-        elim (or→ (eqb n (at t far .link .touch)) (inside t far n) (q .1)) [
-          | inl k ↦
-              let e : n ≡ at t far .link .touch = simp tests at k in
-              rw e (own-touch far (linked far) (λ z. some-far-touch n far h (e ∙ z)))
-          | inr k ↦ →and (isDefect t n) (inside t far n) (q .0) k
-        ]
-
-    module _ (n : ℕ) where
+    -- what the test holds is inside
+    module _ (inward : (x n : ℕ) → T (held x n) → T (isDefectInside t x n)) (n : ℕ) where
       touch-and-peer :
           (T (isSome (at t n .link .touch)) → T (isDefectInside t n (at t n .link .touch)))
           → (T (isSome (at t n .link .peerTouch)) → T (isDefectInside t (farEnd t n) (at t n .link .peerTouch)))
@@ -331,8 +316,11 @@ module _ (t : Table) (full : Full t) (sizes : Sizes t)
 
       by-link : Linked n → T (s8 t n)
       by-link (unlinked e) = no-touches e
-      by-link (virtually h e) = touch-and-peer (λ _. h) (λ k. let d : at t n .link .peerTouch ≢ none = simp tests at k in absurd (d e))
-      by-link (linked-to far e h) = touch-and-peer (λ _. both-touches n far h .0) (λ _. rw e (far-touch far (at t n .link .peerTouch) (both-touches n far h .1)))
+      by-link (virtually h e) = touch-and-peer (λ _. inward n (at t n .link .touch) h) (λ k. let d : at t n .link .peerTouch ≢ none = simp tests at k in absurd (d e))
+      by-link (linked-to far e h) =
+          touch-and-peer
+          (λ _. inward n (at t n .link .touch) (both-touches n far h .0))
+          (λ _. rw e (inward far (at t n .link .peerTouch) (both-touches n far h .1)))
 
       pub touches : T (s8 t n)
       touches = by-link (linked n)

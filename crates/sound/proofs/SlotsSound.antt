@@ -1,27 +1,27 @@
 -- The tests of single slots, with what the walks find, are the rules.
 use mathlib.Core.Path.{_≡_, refl}
 use mathlib.Core.Logic.{_≢_}
-use mathlib.Core.Bool.{_&&_}
-use Prim.Native.Nat.{ℕ}
+use mathlib.Core.Bool.{Bool}
+use Prim.Native.Nat.{ℕ, _<_}
 use lib.Dec.{T}
 use Rattle.slot.specs.declared.state.State.{State}
 use Rattle.slot.specs.declared.state.State.the-variants as S
 use Rattle.slot.specs.Number.{none}
 use Rattle.slot.specs.Slot.{emptySlot}
 use Rattle.table.specs.Table.{Table, at, Full}
-use Rattle.table.specs.Nodes.{isBlossom, present, outer, inner}
-use Rattle.rules.specs.Slots.{isNone, isFull, up, next}
+use Rattle.table.specs.Nodes.{present, outer, inner}
+use Rattle.rules.specs.Slots.{up, next}
 use Rattle.rules.specs.Walk.{ends}
-use Rattle.rules.specs.Sound.{_⇒_, Rule, S1, S2, S3, S4, S5, S6, S7, S8, holds, ringHolds, s5, s6, sound}
+use Rattle.rules.specs.Sound.{Rule, S1, S2, S3, S4, S5, S6, S7, S8, holds, isDefectInside, s5, s6, sound}
 use Rattle.theorems_soundness.specs.Facts.{Sizes, Given, Names, Pointers, Core}
 use Rattle.theorems_soundness.specs.FactsOfNodes.{Kind, free-node, virtual-node, paired-node, root-node, minus-node, plus-node, OuterChild}
 use Rattle.theorems_soundness.specs.FactsOfBlossoms.{PresentBlossom, Ring, InBlossom}
-use Rattle.theorems_soundness.proofs.Reflect.{tests, →and, →imp}
-use Rattle.theorems_soundness.proofs.ReflectSlots.{isFull↔, outer-present, inner-present}
+use Rattle.theorems_soundness.proofs.Reflect.{tests}
+use Rattle.theorems_soundness.proofs.ReflectSlots.{outer-present, inner-present}
 use Rattle.theorems_soundness.proofs.Chains.{chain-start}
 use Rattle.theorems_soundness.proofs.OuterKinds.{kind→s3, kind→s4}
 use Rattle.theorems_soundness.proofs.OuterLists.{s5→children, s7→upward}
-use Rattle.theorems_soundness.proofs.Insides.{blossom↔, s6→ring, facts→s7}
+use Rattle.theorems_soundness.proofs.Insides.{facts→s6, facts→s7}
 use Rattle.theorems_soundness.proofs.SizesAndPointers.{→s1, pointers↔}
 use Rattle.theorems_soundness.proofs.SoundParts.{rule→sound}
 use Rattle.theorems_soundness.proofs.ChildLaws.{next-child}
@@ -29,31 +29,27 @@ use Rattle.theorems_soundness.proofs.RingLaws.{ring-first, ring-next}
 use Rattle.sound.specs.OneSlot.{slotHolds}
 use Rattle.sound.proofs.SlotKinds.{kind, undamaged, ring-owner, inner-child, in-blossom, touches}
 
-module _ (t : Table) (full : Full t) (sizes : Sizes t)
-    (judged : (n : ℕ) → T (present t n) → T (slotHolds t n))
+module _ (t : Table) (full : Full t) (sizes : Sizes t) (held : ℕ → ℕ → Bool) (numbered : ℕ → Bool)
+    (defect : (x n : ℕ) → T (held x n) → n < t .begin)
+    (judged : (n : ℕ) → T (present t n) → T (slotHolds t held numbered n))
     (empty : (n : ℕ) → at t n .state ≡ S.Empty → at t n ≡ emptySlot)
     (given : (n : ℕ) → T (present t n) → Given t n)
     (owner : (n : ℕ) → T (inner t n) → up t n ≢ none → PresentBlossom t (up t n))
     (lists : (n : ℕ) → T (s5 t n))
-    (rings : (n : ℕ) → PresentBlossom t n → T (ringHolds t n))
+    (rings : (n : ℕ) → PresentBlossom t n → Ring t n)
     (ways : (n : ℕ) → T (outer t n) → T (ends 257 (up t) n))
   where
     first : (n : ℕ) → T (outer t n) → at t n .firstChild ≢ none → OuterChild t n (at t n .firstChild)
     first n o d = let k = s5→children t full n (lists n) o in k .exact (at t n .firstChild) .0 (chain-start (next t) (at t n .firstChild) (k .list) (k .chain) d)
 
     kinds : (n : ℕ) → T (outer t n) → Kind t n
-    kinds = kind t full sizes judged empty first
+    kinds = kind t full sizes held numbered defect judged empty first
 
-    inners : (n : ℕ) → T (inner t n) → InBlossom t n
-    inners n i = in-blossom t full sizes judged empty n i (owner n i (inner-child t full sizes judged empty n i))
+    pub inners : (n : ℕ) → T (inner t n) → InBlossom t n
+    inners n i = in-blossom t full sizes held numbered defect judged empty n i (owner n i (inner-child t full sizes held numbered defect judged empty n i))
 
     sixth : (n : ℕ) → T (s6 t n)
-    unfolding s6
-    sixth n =
-        →and ((isBlossom t n && present t n) ⇒ ringHolds t n) (inner t n ⇒ (isFull (at t n .link) && isNone (at t n .firstChild)))
-        (→imp (isBlossom t n && present t n) (ringHolds t n) (λ h. rings n (blossom↔ t n .0 h)))
-        (→imp (inner t n) (isFull (at t n .link) && isNone (at t n .firstChild))
-        (λ i. let b = inners n i in →and (isFull (at t n .link)) (isNone (at t n .firstChild)) (isFull↔ (at t n .link) .1 (b .linked)) (simp tests (b .childless))))
+    sixth n = facts→s6 t full n (rings n) (inners n)
 
     core : Core t
     core =
@@ -62,9 +58,6 @@ module _ (t : Table) (full : Full t) (sizes : Sizes t)
           children = λ n. s5→children t full n (lists n);
           upward = λ n o. s7→upward t full n (facts→s7 t full n (ways n) (inners n)) o;
         }
-
-    ring : (n : ℕ) → PresentBlossom t n → Ring t n
-    ring n = s6→ring t full n (sixth n)
 
     -- ---- S2
 
@@ -77,8 +70,8 @@ module _ (t : Table) (full : Full t) (sizes : Sizes t)
     -- a blossom's first blossom child
     ring-named : (n : ℕ) → Names t (at t n .ring)
     ring-named n d =
-        let b = ring-owner t full sizes judged empty n d in
-        let r = ring n b in
+        let b = ring-owner t full sizes held numbered defect judged empty n d in
+        let r = rings n b in
         inner-here (at t n .ring) (r .exact (at t n .ring) .0 (ring-first t n r) .0)
 
     child-named : (n : ℕ) → T (outer t n) → Names t (at t n .firstChild)
@@ -103,7 +96,7 @@ module _ (t : Table) (full : Full t) (sizes : Sizes t)
     inner-named : (n : ℕ) → T (inner t n) → Pointers t (at t n)
     inner-named n i =
         let b = inners n i in
-        let r = ring (up t n) (b .parent) in
+        let r = rings (up t n) (b .parent) in
         record {
           parent = λ _. b .parent .there;
           child = rw (b .childless) nobody;
@@ -126,17 +119,20 @@ module _ (t : Table) (full : Full t) (sizes : Sizes t)
         go S.Stay e = outer-pointers n (rw e tt)
         go S.Grow e = outer-pointers n (rw e tt)
         go S.Shrink e = outer-pointers n (rw e tt)
-        go S.Damaged e = absurd (undamaged t full sizes judged empty n e)
+        go S.Damaged e = absurd (undamaged t full sizes held numbered defect judged empty n e)
 
-    rule : (r : Rule) (n : ℕ) → T (holds r t n)
-    rule S1 n = →s1 t n (record { sizes = λ _. sizes; undamaged = undamaged t full sizes judged empty n; given = given n; bare = empty n; ring-owner = ring-owner t full sizes judged empty n })
-    rule S2 n = pointers↔ t n .1 (pointers n)
-    rule S3 n = kind→s3 t n full (kinds n)
-    rule S4 n = kind→s4 t n (kinds n)
-    rule S5 n = lists n
-    rule S6 n = sixth n
-    rule S7 n = facts→s7 t full n (ways n) (inners n)
-    rule S8 n = touches t full sizes judged empty n
+    -- ---- all rules, where the test of touches says what is inside, as rings and inner nodes tell
 
-    pub all-sound : T (sound t)
-    all-sound = rule→sound t (λ r n _. rule r n)
+    module _ (inward : (x n : ℕ) → T (held x n) → T (isDefectInside t x n)) where
+      rule : (r : Rule) (n : ℕ) → T (holds r t n)
+      rule S1 n = →s1 t n (record { sizes = λ _. sizes; undamaged = undamaged t full sizes held numbered defect judged empty n; given = given n; bare = empty n; ring-owner = ring-owner t full sizes held numbered defect judged empty n })
+      rule S2 n = pointers↔ t n .1 (pointers n)
+      rule S3 n = kind→s3 t n full (kinds n)
+      rule S4 n = kind→s4 t n (kinds n)
+      rule S5 n = lists n
+      rule S6 n = sixth n
+      rule S7 n = facts→s7 t full n (ways n) (inners n)
+      rule S8 n = touches t full sizes held numbered defect judged empty inward n
+
+      pub all-sound : T (sound t)
+      all-sound = rule→sound t (λ r n _. rule r n)

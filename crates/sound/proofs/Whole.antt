@@ -8,7 +8,7 @@ use Rattle.lists.specs.Choice.{pick}
 use Rattle.sound_walks.specs.Marks.{Judged, judgedOf, sweep}
 use Rattle.sound_walks.proofs.Truth.{by-cases}
 use Rattle.sound_walks.proofs.Sweeps.{sweep-idle, sweep-join, sweep-fails}
-use Rattle.sound.specs.Given.{unseen, givenPass, blossomPass}
+use Rattle.sound.specs.Given.{unseen, givenPass}
 
 module _ (step : ℕ → List ℕ → Judged) (d b e : ℕ) (db : d ≤ b) (be : b ≤ e) (top : e ≤ 256) where
   abbrev pub Idle : ℕ → Type 0
@@ -37,10 +37,6 @@ module _ (step : ℕ → List ℕ → Judged) (d b e : ℕ) (db : d ≤ b) (be :
         ∙ sweep-idle step (256 - e) e (x .seen) (λ h p q. tail h p (omega arith))
         ∙ ap (λ (y : Bool). judgedOf y (x .seen)) (sym o))
         (λ o. sweep-fails step (e - b) (256 - e) b l o)
-
-    pub blossoms-whole : ((h : ℕ) → h < b → Idle h) → blossomPass step b e ≡ sweep step 256 0 unseen
-    unfolding blossomPass
-    blossoms-whole idle = sym (lead 0 unseen (omega arith) (λ h p q. idle h q) ∙ rest unseen)
 
     pub given-whole : ((h : ℕ) → d ≤ h → h < b → Idle h) → givenPass step d b e ≡ sweep step 256 0 unseen
     unfolding givenPass

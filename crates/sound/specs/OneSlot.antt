@@ -9,16 +9,17 @@ use Rattle.rules.specs.Sound.{isBare}
 use Rattle.sound_slots.specs.Links.{ringPlaced}
 use Rattle.sound_slots.specs.States.{innerHolds, stayHolds, growHolds, shrinkHolds}
 
-abbrev pub ruleOf : State → Table → ℕ → Slot → Bool
-ruleOf S.Empty t n s = isBare s
-ruleOf S.Inner t n s = innerHolds t n s
-ruleOf S.Stay t n s = stayHolds t n s
-ruleOf S.Grow t n s = growHolds t n s
-ruleOf S.Shrink t n s = shrinkHolds t n s
-ruleOf S.Damaged t n s = false
+-- `held` tests whether a node holds a touch, `numbered` whether it has a number
+abbrev pub ruleOf : State → Table → (ℕ → ℕ → Bool) → (ℕ → Bool) → ℕ → Slot → Bool
+ruleOf S.Empty t held numbered n s = isBare s
+ruleOf S.Inner t held numbered n s = innerHolds held numbered n s
+ruleOf S.Stay t held numbered n s = stayHolds t held n s
+ruleOf S.Grow t held numbered n s = growHolds t held n s
+ruleOf S.Shrink t held numbered n s = shrinkHolds t held n s
+ruleOf S.Damaged t held numbered n s = false
 
-unfoldable pub slotHolds : Table → ℕ → Bool
-slotHolds t n = ringPlaced t n (at t n .ring) && ruleOf (at t n .state) t n (at t n)
+unfoldable pub slotHolds : Table → (ℕ → ℕ → Bool) → (ℕ → Bool) → ℕ → Bool
+slotHolds t held numbered n = ringPlaced t n (at t n .ring) && ruleOf (at t n .state) t held numbered n (at t n)
 
 -- ---- slots that are not given out
 

@@ -13,6 +13,7 @@ ghost use mathlib.Core.Path.{_≡_};
 ghost use Prim.Native.Nat.{_+_, _-_};
 ghost use Rattle.table.specs.Words.{tableOf};
 ghost use Rattle.rules.specs.Sound.{sizesHold};
+ghost use Rattle.sound_slots.specs.Links.{isHeld, isNumbered};
 ghost use Rattle.sound_walks.specs.Pass.{allFrom};
 ghost use Rattle.sound.specs.OneSlot.{slotHolds, isVacant};
 
@@ -36,9 +37,9 @@ pub fn sizes_hold(t: &Table) -> bool
     both(below, end <= 256)
 }
 
-// All that is asked of a slot that is given out.
-pub fn slot_holds(t: &Table, n: Node) -> bool
-    ensures { λ r. ⌜ r ≡ slotHolds (tableOf (now (t .entry))) (n .0) ⌝ }
+// All that is asked of a slot that is given out, with the numbers of insides.
+pub fn slot_holds<'a>(t: &Table, lo: &'a [u16], hi: &'a [u16], n: Node) -> bool
+    ensures { λ r. ⌜ r ≡ slotHolds (tableOf (now (t .entry))) (isHeld (tableOf (now (t .entry))) (now (lo .entry)) (now (hi .entry))) (isNumbered (now (lo .entry))) (n .0) ⌝ }
 {
     let s = table::get(t, n);
     let state = s.state;
@@ -48,10 +49,10 @@ pub fn slot_holds(t: &Table, n: Node) -> bool
     }
     match state {
         State::Empty => value::is_bare(s),
-        State::Inner => inner_holds(t, n, s),
-        State::Stay => stay_holds(t, n, s),
-        State::Grow => grow_holds(t, n, s),
-        State::Shrink => shrink_holds(t, n, s),
+        State::Inner => inner_holds(t, lo, hi, n, s),
+        State::Stay => stay_holds(t, lo, hi, n, s),
+        State::Grow => grow_holds(t, lo, hi, n, s),
+        State::Shrink => shrink_holds(t, lo, hi, n, s),
         State::Damaged => false,
     }
 }
@@ -73,12 +74,12 @@ fn is_vacant(t: &Table, n: Node) -> bool
 }
 
 // The slots from one number to before another.
-pub fn slots_hold(t: &Table, from: u16, to: u16) -> bool
-    ensures { λ r. ⌜ r ≡ allFrom (slotHolds (tableOf (now (t .entry)))) (to - from) from ⌝ }
+pub fn slots_hold<'a>(t: &Table, lo: &'a [u16], hi: &'a [u16], from: u16, to: u16) -> bool
+    ensures { λ r. ⌜ r ≡ allFrom (slotHolds (tableOf (now (t .entry))) (isHeld (tableOf (now (t .entry))) (now (lo .entry)) (now (hi .entry))) (isNumbered (now (lo .entry)))) (to - from) from ⌝ }
 {
     let mut i = from;
     while i < to {
-        if !slot_holds(t, Node(i)) {
+        if !slot_holds(t, lo, hi, Node(i)) {
             return false;
         }
         i += 1;

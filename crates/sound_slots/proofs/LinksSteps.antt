@@ -1,17 +1,18 @@
 -- Steps of the code that branch: what was found so far, in the code's order, and then the function's own promise.
-use mathlib.Core.Path.{_≡_, refl, sym, ap, _∙_}
-use mathlib.Core.Bool.{Bool, true, false, _&&_, _||_, not}
-use Prim.Native.Nat.{ℕ, suc, _≤_, _<_}
+use mathlib.Core.Path.{_≡_, sym, ap, _∙_}
+use mathlib.Core.Bool.{Bool, true, false, _&&_, not}
+use mathlib.Core.List.{List}
+use Prim.Native.Nat.{ℕ, _≤_, _<_}
 use lib.Dec.{eqb, ltb}
-use borrow.Author.Tests.{eq-eqb, ne-eqb, lt-ltb, le-ltb}
+use lib.ListN.{length, getD, List·getD-eq-default}
+use borrow.Author.Tests.{eq-eqb, ne-eqb, lt-ltb, le-ltb, le-leb, lt-leb}
 use Rattle.slot.specs.declared.state.State.{State}
 use Rattle.slot.specs.Slot.{Link, Slot, noLink, mirror}
 use Rattle.table.specs.Table.{Table, at}
 use Rattle.table.specs.Nodes.{isDefect}
-use Rattle.table.specs.Climb.{insideWithin, inside}
 use Rattle.rules.specs.Slots.{isNone, sameLink, isStay}
-use Rattle.rules.specs.Sound.{isDefectInside, isBare}
-use Rattle.sound_slots.specs.Links.{isFarTouch, pointsBack, pairHolds}
+use Rattle.rules.specs.Sound.{isBare}
+use Rattle.sound_slots.specs.Links.{isHeld, pointsBack, pairHolds}
 
 -- a test that fails decides; one that holds leaves the rest to decide
 pub stops : (a b : Bool) → a ≡ false → false ≡ (a && b)
@@ -20,23 +21,9 @@ stops a b h = rw h
 pub goes : (a b r : Bool) → a ≡ true → r ≡ b → r ≡ (a && b)
 goes a b r h e = e ∙ rw h
 
-or-first : (a b : Bool) → a ≡ true → true ≡ (a || b)
-or-first a b h = rw h
-
-or-last : (a b : Bool) → b ≡ true → true ≡ (a || b)
-or-last true b h = refl
-or-last false b h = sym h
-
-or-rest : (a b r : Bool) → a ≡ false → r ≡ b → r ≡ (a || b)
-or-rest a b r h e = e ∙ rw h
-
--- a node is inside itself
-inside-within : (t : Table) (x n k : ℕ) → n ≡ x → insideWithin (suc k) t x n ≡ true
-unfolding insideWithin
-inside-within t x n k e = rw (eq-eqb n x e)
-
-inside-itself : (t : Table) (x n : ℕ) → n ≡ x → inside t x n ≡ true
-inside-itself t x n = inside-within t x n 255
+-- past the lent memory nothing is numbered
+pub number-past : (l : List ℕ) (n : ℕ) → length l ≤ n → 0 ≡ getD l n 0
+number-past l n h = sym (List·getD-eq-default l 0 h)
 
 pub same-link-step :
     (l m : Link) (here there r : Bool)
@@ -74,40 +61,25 @@ module _ (t : Table) (n b : ℕ) (p : b ≡ t .begin) where
   no-defect : b ≤ n → isDefect t n ≡ false
   no-defect q = ap (λ (z : ℕ). ltb n z) (sym p) ∙ le-ltb n b q
 
-module _ (t : Table) (x n b : ℕ) (p : b ≡ t .begin) where
-  pub touch-blossom : b ≤ n → false ≡ isDefectInside t x n
-  touch-blossom q = stops (isDefect t n) (inside t x n) (no-defect t n b p q)
-
-  pub touch-own : n < b → n ≡ x → true ≡ isDefectInside t x n
-  touch-own q e = goes (isDefect t n) (inside t x n) true (is-defect t n b p q) (sym (inside-itself t x n e))
-
-  pub touch-climbs : (r : Bool) → n < b → r ≡ inside t x n → r ≡ isDefectInside t x n
-  touch-climbs r q e = goes (isDefect t n) (inside t x n) r (is-defect t n b p q) e
-
-module _ (t : Table) (far n b : ℕ) (p : b ≡ t .begin) where
-  pub far-blossom : b ≤ n → false ≡ isFarTouch t far n
-  far-blossom q = stops (isDefect t n) (eqb n (at t far .link .touch) || inside t far n) (no-defect t n b p q)
+module _ (t : Table) (lo hi : List ℕ) (x n b : ℕ) (p : b ≡ t .begin) where
+  pub touch-blossom : b ≤ n → false ≡ isHeld t lo hi x n
+  unfolding isHeld
+  touch-blossom q = rw (no-defect t n b p q)
 
   module _ (q : n < b) where
-    defect : isDefect t n ≡ true
-    defect = is-defect t n b p q
+    pub touch-own : n ≡ x → true ≡ isHeld t lo hi x n
+    unfolding isHeld
+    touch-own e = rw (is-defect t n b p q, eq-eqb n x e)
 
-    abbrev named : Bool
-    named = eqb n (at t far .link .touch)
+    -- by the number of the touch and the stretch of x
+    module _ (d : n ≡ x → ⊥) (u v : ℕ) (e : u ≡ getD lo n 0) (f : v ≡ getD lo x 0) where
+      pub touch-before : u < v → false ≡ isHeld t lo hi x n
+      unfolding isHeld
+      touch-before h = rw (is-defect t n b p q, ne-eqb n x d, ← e, ← f, lt-leb v u h)
 
-    pub far-itself : n ≡ far → true ≡ isFarTouch t far n
-    far-itself e = goes (isDefect t n) (named || inside t far n) true defect (or-last named (inside t far n) (inside-itself t far n e))
-
-    module _ (l : Link) (e : l ≡ at t far .link) where
-      same-touch : l .touch ≡ at t far .link .touch
-      same-touch = ap (λ (m : Link). m .touch) e
-
-      pub far-same : n ≡ l .touch → true ≡ isFarTouch t far n
-      far-same h = goes (isDefect t n) (named || inside t far n) true defect (or-first named (inside t far n) (eq-eqb n (at t far .link .touch) (h ∙ same-touch)))
-
-      pub far-climbs : (r : Bool) → (n ≡ l .touch → ⊥) → r ≡ inside t far n → r ≡ isFarTouch t far n
-      far-climbs r h i =
-          goes (isDefect t n) (named || inside t far n) r defect (or-rest named (inside t far n) r (ne-eqb n (at t far .link .touch) (λ z. h (z ∙ sym same-touch))) i)
+      pub touch-from : (z : ℕ) → v ≤ u → z ≡ getD hi x 0 → ltb u z ≡ isHeld t lo hi x n
+      unfolding isHeld
+      touch-from z h g = rw (is-defect t n b p q, ne-eqb n x d, ← e, ← f, le-leb v u h, ← g)
 
 module _ (t : Table) (n : ℕ) (s : Slot) where
   pub pair-stops : pointsBack t n (s .sibling) ≡ false → false ≡ pairHolds t n s

@@ -7,33 +7,32 @@ use Rattle.lists.specs.Choice.{pick}
 use Rattle.slot.specs.Slot.{Slot, noLink}
 use Rattle.table.specs.Table.{Table, at}
 use Rattle.rules.specs.Slots.{isNone, isSome, sameLink, isGrow, isShrink}
-use Rattle.rules.specs.Sound.{isDefectInside}
 use Rattle.sound_slots.specs.Links.{isThrough, touchesHold, pairHolds}
 
--- S6 and S7 of an inner node; its parent's ring finds that the parent is a blossom
-unfoldable pub innerHolds : Table → ℕ → Slot → Bool
-innerHolds t n s =
+-- S6 and S7 of an inner node; it has a number, so its parent is a blossom that has it on its ring
+unfoldable pub innerHolds : (ℕ → ℕ → Bool) → (ℕ → Bool) → ℕ → Slot → Bool
+innerHolds held numbered n s =
     (isThrough (s .link) && isNone (s .firstChild) && isSome (s .parent) && ltb n (s .parent))
-    && touchesHold t n (s .sibling) (s .link)
+    && (numbered n && touchesHold held n (s .sibling) (s .link))
 
 -- S3: only a matched node stays
-unfoldable pub stayHolds : Table → ℕ → Slot → Bool
-stayHolds t n s =
+unfoldable pub stayHolds : Table → (ℕ → ℕ → Bool) → ℕ → Slot → Bool
+stayHolds t held n s =
     (isThrough (s .link) && isNone (s .parent) && isNone (s .firstChild))
     && pick (isNone (s .sibling))
-    (isNone (s .link .peerTouch) && isDefectInside t n (s .link .touch))
-    (pairHolds t n s && touchesHold t n (s .sibling) (s .link))
+    (isNone (s .link .peerTouch) && held n (s .link .touch))
+    (pairHolds t n s && touchesHold held n (s .sibling) (s .link))
 
 -- S3 and S4: without a parent a free node or a root, with one another + node
-unfoldable pub growHolds : Table → ℕ → Slot → Bool
-growHolds t n s =
+unfoldable pub growHolds : Table → (ℕ → ℕ → Bool) → ℕ → Slot → Bool
+growHolds t held n s =
     isNone (s .sibling)
     && pick (isNone (s .parent))
     (sameLink (s .link) noLink)
-    ((isThrough (s .link) && isShrink (at t (s .parent) .state)) && touchesHold t n (s .parent) (s .link))
+    ((isThrough (s .link) && isShrink (at t (s .parent) .state)) && touchesHold held n (s .parent) (s .link))
 
 -- S4: a − node; its child has a − node as parent, is Grow therefore, and has no sibling
-unfoldable pub shrinkHolds : Table → ℕ → Slot → Bool
-shrinkHolds t n s =
+unfoldable pub shrinkHolds : Table → (ℕ → ℕ → Bool) → ℕ → Slot → Bool
+shrinkHolds t held n s =
     (isThrough (s .link) && isGrow (at t (s .parent) .state) && isSome (s .firstChild))
-    && touchesHold t n (s .parent) (s .link)
+    && touchesHold held n (s .parent) (s .link)

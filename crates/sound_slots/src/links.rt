@@ -1,6 +1,7 @@
-// Tests of a slot's link and pointers: touches inside the two ends (S8), a matched peer that points back with the mirrored link
+// Tests of a slot's link and pointers: touches inside the two ends, by the numbers of insides (S8), a matched peer that points back with the mirrored link
 // (S3), a first blossom child of blossoms alone (S1).
 
+use crate::numbers::number_of;
 use crate::truth::both;
 use slot::Link;
 use slot::Node;
@@ -9,12 +10,11 @@ use table::Table;
 ghost use mathlib.Core.Path.{_≡_};
 ghost use Rattle.slot.specs.Slot.{linkOf, slotOf};
 ghost use Rattle.table.specs.Words.{tableOf};
-ghost use Rattle.rules.specs.Sound.{isDefectInside};
-ghost use Rattle.sound_slots.specs.Links.{isFarTouch, touchesHold, ringPlaced, pointsBack, pairHolds};
+ghost use Rattle.sound_slots.specs.Links.{isHeld, touchesHold, ringPlaced, pointsBack, pairHolds};
 
-// A defect inside x; most often it is x itself.
-pub fn touch_holds(t: &Table, x: Node, touch: Node) -> bool
-    ensures { λ r. ⌜ r ≡ isDefectInside (tableOf (now (t .entry))) (x .0) (touch .0) ⌝ }
+// A defect inside x: x itself, as most often, or one whose number lies in x's stretch.
+pub fn touch_holds<'a>(t: &Table, lo: &'a [u16], hi: &'a [u16], x: Node, touch: Node) -> bool
+    ensures { λ r. ⌜ r ≡ isHeld (tableOf (now (t .entry))) (now (lo .entry)) (now (hi .entry)) (x .0) (touch .0) ⌝ }
 {
     let begin = table::counts::begin(t);
     if begin <= touch.0 {
@@ -23,35 +23,30 @@ pub fn touch_holds(t: &Table, x: Node, touch: Node) -> bool
     if touch.0 == x.0 {
         return true;
     }
-    table::climb::is_inside(t, x, touch)
-}
-
-// A defect inside the link's far end; most often the far end itself, or the touch that it judges as its own.
-fn far_touch_holds(t: &Table, far: Node, touch: Node) -> bool
-    ensures { λ r. ⌜ r ≡ isFarTouch (tableOf (now (t .entry))) (far .0) (touch .0) ⌝ }
-{
-    let begin = table::counts::begin(t);
-    if begin <= touch.0 {
+    let number = number_of(lo, touch);
+    let first = number_of(lo, x);
+    if number < first {
         return false;
     }
-    if touch.0 == far.0 {
-        return true;
-    }
-    let there = table::field::link(t, far);
-    if touch.0 == there.touch.0 {
-        return true;
-    }
-    table::climb::is_inside(t, far, touch)
+    let end = number_of(hi, x);
+    number < end
 }
 
 // S8 of a link with two touches.
-pub fn touches_hold(t: &Table, n: Node, far: Node, link: Link) -> bool
-    ensures { λ r. ⌜ r ≡ touchesHold (tableOf (now (t .entry))) (n .0) (far .0) (linkOf link) ⌝ }
+pub fn touches_hold<'a>(
+    t: &Table,
+    lo: &'a [u16],
+    hi: &'a [u16],
+    n: Node,
+    far: Node,
+    link: Link,
+) -> bool
+    ensures { λ r. ⌜ r ≡ touchesHold (isHeld (tableOf (now (t .entry))) (now (lo .entry)) (now (hi .entry))) (n .0) (far .0) (linkOf link) ⌝ }
 {
-    if !touch_holds(t, n, link.touch) {
+    if !touch_holds(t, lo, hi, n, link.touch) {
         return false;
     }
-    far_touch_holds(t, far, link.peer_touch)
+    touch_holds(t, lo, hi, far, link.peer_touch)
 }
 
 // Only blossoms have a first blossom child.

@@ -1,9 +1,10 @@
 // What a slot must be depends on its state alone: what each state asks of the slot and of what its pointers name. Nothing is
 // asked that another test tells: a peer with a smaller number has judged the link, and the walks along child lists and rings find
-// that what they name is present.
+// that what they name is present. Rings were walked before, and gave their nodes numbers.
 use crate::links::pair_holds;
 use crate::links::touch_holds;
 use crate::links::touches_hold;
+use crate::numbers::number_of;
 use crate::truth::both;
 use crate::value;
 use slot::Node;
@@ -12,10 +13,11 @@ use table::Table;
 ghost use mathlib.Core.Path.{_≡_};
 ghost use Rattle.slot.specs.Slot.{slotOf};
 ghost use Rattle.table.specs.Words.{tableOf};
+ghost use Rattle.sound_slots.specs.Links.{isHeld, isNumbered};
 ghost use Rattle.sound_slots.specs.States.{innerHolds, stayHolds, growHolds, shrinkHolds};
 
-pub fn inner_holds(t: &Table, n: Node, s: Slot) -> bool
-    ensures { λ r. ⌜ r ≡ innerHolds (tableOf (now (t .entry))) (n .0) (slotOf s) ⌝ }
+pub fn inner_holds<'a>(t: &Table, lo: &'a [u16], hi: &'a [u16], n: Node, s: Slot) -> bool
+    ensures { λ r. ⌜ r ≡ innerHolds (isHeld (tableOf (now (t .entry))) (now (lo .entry)) (now (hi .entry))) (isNumbered (now (lo .entry))) (n .0) (slotOf s) ⌝ }
 {
     let link = s.link;
     let above = s.parent;
@@ -27,11 +29,15 @@ pub fn inner_holds(t: &Table, n: Node, s: Slot) -> bool
     if !larger {
         return false;
     }
-    touches_hold(t, n, next, link)
+    let number = number_of(lo, n);
+    if number == 0 {
+        return false;
+    }
+    touches_hold(t, lo, hi, n, next, link)
 }
 
-pub fn stay_holds(t: &Table, n: Node, s: Slot) -> bool
-    ensures { λ r. ⌜ r ≡ stayHolds (tableOf (now (t .entry))) (n .0) (slotOf s) ⌝ }
+pub fn stay_holds<'a>(t: &Table, lo: &'a [u16], hi: &'a [u16], n: Node, s: Slot) -> bool
+    ensures { λ r. ⌜ r ≡ stayHolds (tableOf (now (t .entry))) (isHeld (tableOf (now (t .entry))) (now (lo .entry)) (now (hi .entry))) (n .0) (slotOf s) ⌝ }
 {
     let link = s.link;
     let next = s.sibling;
@@ -45,16 +51,16 @@ pub fn stay_holds(t: &Table, n: Node, s: Slot) -> bool
         if link.peer_touch.0 != slot::number::NO_NODE {
             return false;
         }
-        return touch_holds(t, n, link.touch);
+        return touch_holds(t, lo, hi, n, link.touch);
     }
     if !pair_holds(t, n, s) {
         return false;
     }
-    touches_hold(t, n, next, link)
+    touches_hold(t, lo, hi, n, next, link)
 }
 
-pub fn grow_holds(t: &Table, n: Node, s: Slot) -> bool
-    ensures { λ r. ⌜ r ≡ growHolds (tableOf (now (t .entry))) (n .0) (slotOf s) ⌝ }
+pub fn grow_holds<'a>(t: &Table, lo: &'a [u16], hi: &'a [u16], n: Node, s: Slot) -> bool
+    ensures { λ r. ⌜ r ≡ growHolds (tableOf (now (t .entry))) (isHeld (tableOf (now (t .entry))) (now (lo .entry)) (now (hi .entry))) (n .0) (slotOf s) ⌝ }
 {
     let link = s.link;
     let above = s.parent;
@@ -70,12 +76,12 @@ pub fn grow_holds(t: &Table, n: Node, s: Slot) -> bool
     if !both(through, shrinks) {
         return false;
     }
-    touches_hold(t, n, above, link)
+    touches_hold(t, lo, hi, n, above, link)
 }
 
 // Nothing is asked of the child: an outer node below a − node must be Grow, and so has no sibling.
-pub fn shrink_holds(t: &Table, n: Node, s: Slot) -> bool
-    ensures { λ r. ⌜ r ≡ shrinkHolds (tableOf (now (t .entry))) (n .0) (slotOf s) ⌝ }
+pub fn shrink_holds<'a>(t: &Table, lo: &'a [u16], hi: &'a [u16], n: Node, s: Slot) -> bool
+    ensures { λ r. ⌜ r ≡ shrinkHolds (tableOf (now (t .entry))) (isHeld (tableOf (now (t .entry))) (now (lo .entry)) (now (hi .entry))) (n .0) (slotOf s) ⌝ }
 {
     let link = s.link;
     let above = s.parent;
@@ -88,5 +94,5 @@ pub fn shrink_holds(t: &Table, n: Node, s: Slot) -> bool
     if !own {
         return false;
     }
-    touches_hold(t, n, above, link)
+    touches_hold(t, lo, hi, n, above, link)
 }

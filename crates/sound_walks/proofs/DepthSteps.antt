@@ -134,21 +134,21 @@ module _ (ws l : List ℕ) (n p : ℕ) (v : p ≡ up (tableOf ws) n) (f : p ≡ 
 
 -- ---- the last pass
 
-module _ (t : Table) (l m : List ℕ) (n : ℕ) (deep : List ℕ) (p : ℕ) (v : p ≡ up t n) where
-  pub way-top : p ≡ none → judgedOf true deep ≡ wayStep t l m n deep
+module _ (t : Table) (l : List ℕ) (n : ℕ) (deep : List ℕ) (p : ℕ) (v : p ≡ up t n) where
+  pub way-top : p ≡ none → judgedOf true deep ≡ wayStep t l n deep
   unfolding wayStep
   way-top h = rw (← v, eq-eqb p none h)
 
   module _ (f : p ≡ none → ⊥) (b : Bool) (e : b ≡ inner t n) where
-    pub way-inner : (r : Bool) → b ≡ true → r ≡ marked m n → judgedOf r deep ≡ wayStep t l m n deep
+    pub way-inner : b ≡ true → judgedOf true deep ≡ wayStep t l n deep
     unfolding wayStep
-    way-inner r h q = let i : inner t n ≡ true = sym e ∙ h in rw (← v, ne-eqb p none f, i, q)
+    way-inner h = let i : inner t n ≡ true = sym e ∙ h in rw (← v, ne-eqb p none f, i)
 
     module _ (h : b ≡ false) (r : Bool) (q : r ≡ marked l n) where
-      pub way-unlisted : r ≡ false → judgedOf false deep ≡ wayStep t l m n deep
+      pub way-unlisted : r ≡ false → judgedOf false deep ≡ wayStep t l n deep
       unfolding wayStep
       way-unlisted u = let i : inner t n ≡ false = sym e ∙ h in rw (← v, ne-eqb p none f, i, ← q, u)
 
-      pub way-up : (w : Judged) → r ≡ true → w ≡ depthStep t n deep → w ≡ wayStep t l m n deep
+      pub way-up : (w : Judged) → r ≡ true → w ≡ depthStep t n deep → w ≡ wayStep t l n deep
       unfolding wayStep
       way-up w u s = let i : inner t n ≡ false = sym e ∙ h in rw (← v, ne-eqb p none f, i, ← q, u, s)

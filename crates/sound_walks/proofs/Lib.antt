@@ -4,7 +4,7 @@ pub mod Walks
 pub mod Sweeps
 pub mod SoundChildrenSteps
 pub mod SoundChildrenPaths
-pub mod SoundRingsSteps
-pub mod SoundRingsPaths
 pub mod DepthSteps
 pub mod WaysEnd
+pub mod NumbersSteps
+pub mod NumbersExamples

@@ -15,9 +15,6 @@ pub marked-past : (l : List ℕ) (n : ℕ) → length l ≤ n → false ≡ mark
 unfolding marked
 marked-past l n h = rw (List·getD-eq-default l 0 h)
 
-pub depth-past : (l : List ℕ) (n : ℕ) → length l ≤ n → 0 ≡ getD l n 0
-depth-past l n h = sym (List·getD-eq-default l 0 h)
-
 -- ---- a walk
 
 module _ (along : ℕ → ℕ) (mine : ℕ → Bool) (n c : ℕ) (l : List ℕ) where

@@ -1,4 +1,4 @@
--- The pass with remembered depths gives S7 of outer nodes, and asks for the marks of S5 and S6.
+-- The pass with remembered depths gives S7 of outer nodes, and asks for the marks of S5.
 use mathlib.Core.Path.{_≡_, refl, sym, ap, _∙_}
 use mathlib.Core.List.{List}
 use mathlib.Core.Bool.{Bool, true, false, _&&_, not}
@@ -208,15 +208,15 @@ module _ (t : Table) where
 
   -- ---- the last pass, with the marks of lists and rings
 
-  module _ (l m : List ℕ) where
+  module _ (l : List ℕ) where
     abbrev pub wayFine : ℕ → Bool
-    wayFine n = pick (isNone (up t n)) true (pick (inner t n) (marked m n) (marked l n && ends 257 (up t) n))
+    wayFine n = pick (isNone (up t n)) true (pick (inner t n) true (marked l n && ends 257 (up t) n))
 
-    pub way-skips : (n : ℕ) (deep : List ℕ) → isNone (up t n) ≡ true → wayStep t l m n deep ≡ judgedOf true deep
+    pub way-skips : (n : ℕ) (deep : List ℕ) → isNone (up t n) ≡ true → wayStep t l n deep ≡ judgedOf true deep
     unfolding wayStep
     way-skips n deep u = rw u
 
-    way-judges : (n : ℕ) (deep : List ℕ) → Known deep → wayStep t l m n deep .ok ≡ wayFine n
+    way-judges : (n : ℕ) (deep : List ℕ) → Known deep → wayStep t l n deep .ok ≡ wayFine n
     unfolding wayStep
     way-judges n deep k =
         by-cases (isNone (up t n))
@@ -229,7 +229,7 @@ module _ (t : Table) where
         (λ e. rw (u, i, e) (depth-judges n deep k))
         (λ e. rw (u, i, e))))
 
-    way-keeps : (n : ℕ) (deep : List ℕ) → Known deep → wayStep t l m n deep .ok ≡ true → Known (wayStep t l m n deep .seen)
+    way-keeps : (n : ℕ) (deep : List ℕ) → Known deep → wayStep t l n deep .ok ≡ true → Known (wayStep t l n deep .seen)
     unfolding wayStep
     way-keeps n deep k h =
         by-cases (isNone (up t n))
@@ -242,15 +242,12 @@ module _ (t : Table) where
         (λ e. let h′ : depthStep t n deep .ok ≡ true = rw (u, i, e) at h in rw (u, i, e) (depth-keeps n deep k h′))
         (λ e. rw (u, i, e) k)))
 
-    pub ways-right : sweep (wayStep t l m) 256 0 unseen .ok ≡ allFrom wayFine 256 0
-    ways-right = judged-all wayFine (wayStep t l m) Known way-judges way-keeps 256 0 unseen known-start
+    pub ways-right : sweep (wayStep t l) 256 0 unseen .ok ≡ allFrom wayFine 256 0
+    ways-right = judged-all wayFine (wayStep t l) Known way-judges way-keeps 256 0 unseen known-start
 
     -- ---- what it says of a slot
 
     module _ (n : ℕ) where
-      pub way-ringed : wayFine n ≡ true → isNone (up t n) ≡ false → inner t n ≡ true → marked m n ≡ true
-      way-ringed h u i = rw (u, i) at h
-
       pub way-listed : wayFine n ≡ true → isNone (up t n) ≡ false → inner t n ≡ false → marked l n ≡ true
       way-listed h u i = let h′ : (marked l n && ends 257 (up t) n) ≡ true = rw (u, i) at h in and-left (marked l n) (ends 257 (up t) n) h′
 
@@ -261,13 +258,12 @@ module _ (t : Table) where
           (λ u. let h′ : (marked l n && ends 257 (up t) n) ≡ true = rw (u, i) at h in and-right (marked l n) (ends 257 (up t) n) h′)
 
       pub way-from :
-          (isNone (up t n) ≡ false → inner t n ≡ true → marked m n ≡ true)
-          → (isNone (up t n) ≡ false → inner t n ≡ false → (marked l n ≡ true) × (ends 257 (up t) n ≡ true))
+          (isNone (up t n) ≡ false → inner t n ≡ false → (marked l n ≡ true) × (ends 257 (up t) n ≡ true))
           → wayFine n ≡ true
-      way-from f g =
+      way-from g =
           by-cases (isNone (up t n))
           (λ u. rw u)
           (λ u.
           by-cases (inner t n)
-          (λ i. rw (u, i) (f u i))
+          (λ i. rw (u, i))
           (λ i. let p = g u i in rw (u, i) (and-both (marked l n) (ends 257 (up t) n) (p .0) (p .1))))

@@ -1,4 +1,4 @@
--- What the code does in its last pass, with the marks of lists and rings and a list of depths, 0 where the depth is not known.
+-- What the code does in its last pass, with the marks of lists and a list of depths, 0 where the depth is not known.
 use Prim.Native.Nat.{ℕ, zero, suc, _+_}
 use mathlib.Core.Bool.{true, false}
 use mathlib.Core.List.{List}
@@ -29,9 +29,9 @@ depthStep t n l =
     pick (isNone (up t n)) (judgedOf true l)
     (pick (leb (measured t l 257 n 0) 257) (judgedOf true (recorded t (measured t l 257 n 0) n l)) (judgedOf false l))
 
--- a node with a parent is marked: an inner one in m, by rings, another in l, by child lists; and then the way up from it ends
-unfoldable pub wayStep : Table → List ℕ → List ℕ → ℕ → List ℕ → Judged
-wayStep t l m n deep =
+-- an outer node with a parent is marked in l, by child lists, and the way up from it ends
+unfoldable pub wayStep : Table → List ℕ → ℕ → List ℕ → Judged
+wayStep t l n deep =
     pick (isNone (up t n)) (judgedOf true deep)
-    (pick (inner t n) (judgedOf (marked m n) deep)
+    (pick (inner t n) (judgedOf true deep)
     (pick (marked l n) (depthStep t n deep) (judgedOf false deep)))

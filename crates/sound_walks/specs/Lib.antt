@@ -1,5 +1,5 @@
 pub mod Marks
 pub mod Pass
 pub mod Lists
-pub mod Rings
 pub mod Depths
+pub mod Numbers

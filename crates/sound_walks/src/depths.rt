@@ -1,6 +1,7 @@
 // Ways up (S7). A node's depth is the number of steps from it along parents to none, and 0 stands for one not known yet.
-use crate::marks;
 use slot::Node;
+use sound_slots::numbers::number_of;
+use sound_slots::numbers::set_number;
 use table::Table;
 ghost use mathlib.Core.Path.{_≡_};
 ghost use Rattle.table.specs.Words.{tableOf};
@@ -18,7 +19,7 @@ fn measure(t: &Table, deep: &[u16], n: Node) -> u32
         if here.0 == slot::number::NO_NODE {
             return count;
         }
-        let known = marks::depth_of(deep, here);
+        let known = number_of(deep, here);
         if known != 0 {
             return count + (known as u32);
         }
@@ -38,11 +39,11 @@ fn note_way(t: &Table, deep: &mut [u16], n: Node, depth: u16)
     let mut here = n;
     let mut left = depth;
     while 0 < left {
-        let known = marks::depth_of(deep, here);
+        let known = number_of(deep, here);
         if known != 0 {
             return;
         }
-        marks::note_depth(deep, here, left);
+        set_number(deep, here, left);
         here = table::field::parent(t, here);
         left -= 1;
     }
@@ -57,16 +58,16 @@ pub fn depth_step(t: &Table, deep: &mut [u16], n: Node) -> bool
     if above.0 == slot::number::NO_NODE {
         return true;
     }
-    let own = marks::depth_of(deep, n);
+    let own = number_of(deep, n);
     if own != 0 {
         return own <= 257;
     }
-    let known = marks::depth_of(deep, above);
+    let known = number_of(deep, above);
     if known != 0 {
         if 256 < known {
             return false;
         }
-        marks::note_depth(deep, n, known + 1);
+        set_number(deep, n, known + 1);
         return true;
     }
     let depth = measure(t, deep, n);

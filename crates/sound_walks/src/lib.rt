@@ -3,5 +3,5 @@
 pub mod children;
 pub mod depths;
 pub mod marks;
-pub mod rings;
+pub mod numbers;
 pub mod ways;

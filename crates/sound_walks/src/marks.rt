@@ -1,7 +1,7 @@
-// A number for each slot, in lent memory. Past its end there is nothing to read and nothing to change.
+// A mark for each slot, in lent memory. Past its end there is nothing to read and nothing to change.
 use slot::Node;
 ghost use mathlib.Core.Path.{_≡_};
-ghost use lib.ListN.{set, getD};
+ghost use lib.ListN.{set};
 ghost use Rattle.sound_walks.specs.Marks.{marked};
 
 pub fn mark(seen: &mut [u8], n: Node)
@@ -21,23 +21,4 @@ pub fn is_marked(seen: &[u8], n: Node) -> bool
         return seen[i] == 1;
     }
     false
-}
-
-pub fn depth_of(deep: &[u16], n: Node) -> u16
-    ensures { λ r. ⌜ r ≡ getD (now (deep .entry)) (n .0) 0 ⌝ }
-{
-    let i = n.0 as usize;
-    if i < deep.len() {
-        return deep[i];
-    }
-    0
-}
-
-pub fn note_depth(deep: &mut [u16], n: Node, depth: u16)
-    ensures { λ _. ⌜ now (deep .exit) ≡ set (now (deep .entry)) (n .0) depth ⌝ }
-{
-    let i = n.0 as usize;
-    if i < deep.len() {
-        deep[i] = depth;
-    }
 }

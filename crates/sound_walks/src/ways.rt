@@ -1,4 +1,4 @@
-// The last pass (S5, S6, S7): every node that has a parent was marked on its parent's walk, and from outer nodes the way up ends.
+// The last pass (S5, S7): every outer node that has a parent was marked on its parent's list, and the way up from it ends.
 use crate::depths;
 use crate::marks;
 use slot::Node;
@@ -9,16 +9,16 @@ ghost use Rattle.table.specs.Words.{tableOf};
 ghost use Rattle.sound_walks.specs.Marks.{judgedOf, sweep};
 ghost use Rattle.sound_walks.specs.Depths.{wayStep};
 
-// Inner nodes stand on rings, all others on child lists.
-fn way_step<'a>(t: &Table, listed: &'a [u8], ringed: &'a [u8], deep: &mut [u16], n: Node) -> bool
-    ensures { λ r. ⌜ judgedOf r (now (deep .exit)) ≡ wayStep (tableOf (now (t .entry))) (now (listed .entry)) (now (ringed .entry)) (n .0) (now (deep .entry)) ⌝ }
+// Inner nodes stand on rings, and have numbers.
+fn way_step(t: &Table, listed: &[u8], deep: &mut [u16], n: Node) -> bool
+    ensures { λ r. ⌜ judgedOf r (now (deep .exit)) ≡ wayStep (tableOf (now (t .entry))) (now (listed .entry)) (n .0) (now (deep .entry)) ⌝ }
 {
     let above = table::field::parent(t, n);
     if above.0 == slot::number::NO_NODE {
         return true;
     }
     if table::field::is_inner(t, n) {
-        return marks::is_marked(ringed, n);
+        return true;
     }
     if !marks::is_marked(listed, n) {
         return false;
@@ -27,19 +27,12 @@ fn way_step<'a>(t: &Table, listed: &'a [u8], ringed: &'a [u8], deep: &mut [u16],
 }
 
 // The slots from one number to before another.
-pub fn ways_hold<'a>(
-    t: &Table,
-    listed: &'a [u8],
-    ringed: &'a [u8],
-    deep: &mut [u16],
-    from: u16,
-    to: u16,
-) -> bool
-    ensures { λ r. ⌜ judgedOf r (now (deep .exit)) ≡ sweep (wayStep (tableOf (now (t .entry))) (now (listed .entry)) (now (ringed .entry))) (to - from) from (now (deep .entry)) ⌝ }
+pub fn ways_hold(t: &Table, listed: &[u8], deep: &mut [u16], from: u16, to: u16) -> bool
+    ensures { λ r. ⌜ judgedOf r (now (deep .exit)) ≡ sweep (wayStep (tableOf (now (t .entry))) (now (listed .entry))) (to - from) from (now (deep .entry)) ⌝ }
 {
     let mut i = from;
     while i < to {
-        if !way_step(t, listed, ringed, deep, Node(i)) {
+        if !way_step(t, listed, deep, Node(i)) {
             return false;
         }
         i += 1;

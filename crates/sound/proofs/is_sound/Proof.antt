@@ -16,6 +16,6 @@ is-sound-spec =
     (λ c κs. search needs)
     (λ c. omega (arith, end-fits _ _ (c .before .before .before .before .sizes-hold .ensures) (not-false _ (c .before .before .before .if1 .left)) _ _ _ (c .before .before .count-defects .ensures) (c .before .begin .ensures) (c .count-blossoms .ensures)))
     (λ c κs. search needs)
-    (λ c. each-no _ _ (c .before .before .before .before .before .before .sizes-hold .ensures) (not-false _ (c .before .before .before .before .before .if1 .left)) _ _ _ (c .before .before .before .before .count-defects .ensures) (c .before .before .before .begin .ensures) (c .before .before .count-blossoms .ensures) _ (c .before .each-holds .ensures) (not-true _ (c .if2 .taken)))
+    (λ c. each-no _ _ (c .before .before .before .before .before .before .sizes-hold .ensures) (not-false _ (c .before .before .before .before .before .if1 .left)) _ _ _ (c .before .before .before .before .count-defects .ensures) (c .before .before .before .begin .ensures) (c .before .before .count-blossoms .ensures) _ (c .before .numbered-hold .ensures) (not-true _ (c .if2 .taken)))
     (λ c κs. search needs)
-    (λ c. paths-answer _ _ (c .before .before .before .before .before .before .before .sizes-hold .ensures) (not-false _ (c .before .before .before .before .before .before .if1 .left)) _ _ _ (c .before .before .before .before .before .count-defects .ensures) (c .before .before .before .before .begin .ensures) (c .before .before .before .count-blossoms .ensures) _ (c .before .before .each-holds .ensures) _ (not-false _ (c .before .if2 .left)) (c .paths-hold .ensures)))
+    (λ c. paths-answer _ _ (c .before .before .before .before .before .before .before .sizes-hold .ensures) (not-false _ (c .before .before .before .before .before .before .if1 .left)) _ _ _ (c .before .before .before .before .before .count-defects .ensures) (c .before .before .before .before .begin .ensures) (c .before .before .before .count-blossoms .ensures) _ (c .before .before .numbered-hold .ensures) _ (not-false _ (c .before .if2 .left)) (c .paths-hold .ensures)))

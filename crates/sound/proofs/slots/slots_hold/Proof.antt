@@ -1,5 +1,6 @@
 use borrow.Author.Needs.{needs}
 use Rattle.sound.proofs.Passes.{from-end, from-stop, from-more}
+use Rattle.sound_slots.specs.Links.{isHeld, isNumbered}
 use Rattle.sound_walks.specs.Pass.{allFrom}
 use Rattle.sound.specs.OneSlot.{slotHolds}
 use Rattle.table.specs.Words.{tableOf}
@@ -10,10 +11,10 @@ use Rattle.sound.proofs.slots.slots_hold.Statement.{statement}
 use Rattle.sound.proofs.slots.slots_hold.Tie as tie
 
 abbrev Inv-loop : tie.InvT-loop
-Inv-loop t from to i₀ i = allFrom (slotHolds (tableOf t)) (to - i) i ≡ allFrom (slotHolds (tableOf t)) (to - from) from
+Inv-loop t lo hi from to i₀ i = allFrom (slotHolds (tableOf t) (isHeld (tableOf t) lo hi) (isNumbered lo)) (to - i) i ≡ allFrom (slotHolds (tableOf t) (isHeld (tableOf t) lo hi) (isNumbered lo)) (to - from) from
 
 abbrev μ-loop : tie.MeasureT-loop
-μ-loop t from to i₀ i = to - i
+μ-loop t lo hi from to i₀ i = to - i
 
 pub slots-hold-spec : {M : Type 1} → statement M
 slots-hold-spec =

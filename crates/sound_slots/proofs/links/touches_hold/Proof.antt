@@ -13,4 +13,4 @@ touches-hold-spec =
     (λ c κs. search needs)
     (λ c. stops _ _ (sym (c .before .touch-holds .ensures) ∙ not-true _ (c .if1 .taken)))
     (λ c κs. search needs)
-    (λ c. goes _ _ _ (sym (c .before .before .touch-holds .ensures) ∙ not-false _ (c .before .if1 .left)) (c .far-touch-holds .ensures)))
+    (λ c. goes _ _ _ (sym (c .before .before .touch-holds .ensures) ∙ not-false _ (c .before .if1 .left)) (c .touch-holds2 .ensures)))

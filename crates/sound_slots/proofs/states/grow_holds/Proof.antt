@@ -8,13 +8,13 @@ pub grow-holds-spec : {M : Type 1} → statement M
 grow-holds-spec =
     tie.close
     (tie.spec
-    (λ c. sibling-stops _ _ _ (ne-eqb _ _ (c .if1 .taken)))
+    (λ c. sibling-stops _ _ _ _ (ne-eqb _ _ (c .if1 .taken)))
     (λ c κs. search needs)
-    (λ c. top-decides _ _ _ _ (eq-eqb _ _ (c .before .before .before .if1 .left)) (eq-eqb _ _ (c .before .if2 .taken)) (c .is-no-link .ensures))
-    (λ c κs. search needs)
-    (λ c κs. search needs)
+    (λ c. top-decides _ _ _ _ _ (eq-eqb _ _ (c .before .before .before .if1 .left)) (eq-eqb _ _ (c .before .if2 .taken)) (c .is-no-link .ensures))
     (λ c κs. search needs)
     (λ c κs. search needs)
-    (λ c. plus-stops _ _ _ _ (c .before .before .before .before .state .ensures) _ (c .before .before .is-through .ensures) (eq-eqb _ _ (c .before .before .before .before .before .before .before .if1 .left)) (ne-eqb _ _ (c .before .before .before .before .before .if2 .left)) _ _ (c .before .before .before .is-shrink .ensures) (c .before .both .ensures) (not-true _ (c .if3 .taken)))
     (λ c κs. search needs)
-    (λ c. plus-goes _ _ _ _ (c .before .before .before .before .before .state .ensures) _ (c .before .before .before .is-through .ensures) (eq-eqb _ _ (c .before .before .before .before .before .before .before .before .if1 .left)) (ne-eqb _ _ (c .before .before .before .before .before .before .if2 .left)) _ _ (c .before .before .before .before .is-shrink .ensures) (c .before .before .both .ensures) _ (not-false _ (c .before .if3 .left)) (c .touches-hold .ensures)))
+    (λ c κs. search needs)
+    (λ c. plus-stops _ _ _ _ _ (c .before .before .before .before .state .ensures) _ (c .before .before .is-through .ensures) (eq-eqb _ _ (c .before .before .before .before .before .before .before .if1 .left)) (ne-eqb _ _ (c .before .before .before .before .before .if2 .left)) _ _ (c .before .before .before .is-shrink .ensures) (c .before .both .ensures) (not-true _ (c .if3 .taken)))
+    (λ c κs. search needs)
+    (λ c. plus-goes _ _ _ _ _ (c .before .before .before .before .before .state .ensures) _ (c .before .before .before .is-through .ensures) (eq-eqb _ _ (c .before .before .before .before .before .before .before .before .if1 .left)) (ne-eqb _ _ (c .before .before .before .before .before .before .if2 .left)) _ _ (c .before .before .before .before .is-shrink .ensures) (c .before .before .both .ensures) _ (not-false _ (c .before .if3 .left)) (c .touches-hold .ensures)))

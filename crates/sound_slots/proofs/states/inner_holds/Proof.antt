@@ -1,14 +1,10 @@
-use Rattle.sound_slots.proofs.LinksSteps.{stops, goes}
-use Rattle.sound_slots.proofs.StatesSteps.{joined-more}
-use mathlib.Core.Path.{sym, _∙_}
-use Rattle.sound_slots.specs.States.{innerHolds}
+use Rattle.sound_slots.proofs.StatesSteps.{inner-stops, inner-unnumbered, inner-goes}
 use borrow.Author.Tests.{not-true, not-false}
 use borrow.Author.Needs.{needs}
 use Rattle.sound_slots.proofs.states.inner_holds.Statement.{statement}
 use Rattle.sound_slots.proofs.states.inner_holds.Tie as tie
 
 pub inner-holds-spec : {M : Type 1} → statement M
-unfolding innerHolds
 inner-holds-spec =
     tie.close
     (tie.spec
@@ -16,6 +12,8 @@ inner-holds-spec =
     (λ c κs. search needs)
     (λ c κs. search needs)
     (λ c κs. search needs)
-    (λ c. stops _ _ (sym (joined-more _ _ _ _ _ _ (c .before .before .before .before .before .before .before .before .is-through .ensures) (c .before .before .before .before .before .before .both .ensures) (c .before .before .before .before .both2 .ensures) _ _ (c .before .both3 .ensures)) ∙ not-true _ (c .if1 .taken)))
+    (λ c. inner-stops _ _ _ _ _ _ _ _ _ (c .before .before .before .before .before .before .before .before .is-through .ensures) (c .before .before .before .before .before .before .both .ensures) (c .before .before .before .before .both2 .ensures) (c .before .both3 .ensures) (not-true _ (c .if1 .taken)))
     (λ c κs. search needs)
-    (λ c. goes _ _ _ (sym (joined-more _ _ _ _ _ _ (c .before .before .before .before .before .before .before .before .before .is-through .ensures) (c .before .before .before .before .before .before .before .both .ensures) (c .before .before .before .before .before .both2 .ensures) _ _ (c .before .before .both3 .ensures)) ∙ not-false _ (c .before .if1 .left)) (c .touches-hold .ensures)))
+    (λ c. inner-unnumbered _ _ _ _ _ _ _ _ _ (c .before .before .before .before .before .before .before .before .before .before .is-through .ensures) (c .before .before .before .before .before .before .before .before .both .ensures) (c .before .before .before .before .before .before .both2 .ensures) (c .before .before .before .both3 .ensures) (not-false _ (c .before .before .if1 .left)) _ (c .before .number-of .ensures) (c .if2 .taken))
+    (λ c κs. search needs)
+    (λ c. inner-goes _ _ _ _ _ _ _ _ _ (c .before .before .before .before .before .before .before .before .before .before .before .is-through .ensures) (c .before .before .before .before .before .before .before .before .before .both .ensures) (c .before .before .before .before .before .before .before .both2 .ensures) (c .before .before .before .before .both3 .ensures) (not-false _ (c .before .before .before .if1 .left)) _ (c .before .before .number-of .ensures) _ (c .before .if2 .left) (c .touches-hold .ensures)))

@@ -9,12 +9,11 @@ way-step-spec =
     tie.close
     (tie.spec
     (λ c κs. search needs)
-    (λ c. way-top _ _ _ _ _ _ (c .before .before .parent .ensures) (c .if1 .taken))
+    (λ c. way-top _ _ _ _ _ (c .before .before .parent .ensures) (c .if1 .taken))
     (λ c κs. search needs)
+    (λ c. way-inner _ _ _ _ _ (c .before .before .before .before .parent .ensures) (c .before .before .if1 .left) _ (c .before .is-inner .ensures) (c .if2 .taken))
     (λ c κs. search needs)
-    (λ c. way-inner _ _ _ _ _ _ (c .before .before .before .before .before .parent .ensures) (c .before .before .before .if1 .left) _ (c .before .before .is-inner .ensures) _ (c .before .if2 .taken) (c .is-marked .ensures))
-    (λ c κs. search needs)
-    (λ c. way-unlisted _ _ _ _ _ _ (c .before .before .before .before .before .before .parent .ensures) (c .before .before .before .before .if1 .left) _ (c .before .before .before .is-inner .ensures) (c .before .before .if2 .left) _ (c .before .is-marked2 .ensures) (not-true _ (c .if3 .taken)))
+    (λ c. way-unlisted _ _ _ _ _ (c .before .before .before .before .before .before .parent .ensures) (c .before .before .before .before .if1 .left) _ (c .before .before .before .is-inner .ensures) (c .before .before .if2 .left) _ (c .before .is-marked .ensures) (not-true _ (c .if3 .taken)))
     (λ c κs. search needs)
     (λ c. search needs)
-    (λ c. way-up _ _ _ _ _ _ (c .before .before .before .before .before .before .before .before .before .before .parent .ensures) (c .before .before .before .before .before .before .before .before .if1 .left) _ (c .before .before .before .before .before .before .before .is-inner .ensures) (c .before .before .before .before .before .before .if2 .left) _ (c .before .before .before .before .before .is-marked2 .ensures) _ (not-false _ (c .before .before .before .before .if3 .left)) (c .before .before .depth-step .ensures)))
+    (λ c. way-up _ _ _ _ _ (c .before .before .before .before .before .before .before .before .before .before .parent .ensures) (c .before .before .before .before .before .before .before .before .if1 .left) _ (c .before .before .before .before .before .before .before .is-inner .ensures) (c .before .before .before .before .before .before .if2 .left) _ (c .before .before .before .before .before .is-marked .ensures) _ (not-false _ (c .before .before .before .before .if3 .left)) (c .before .before .depth-step .ensures)))

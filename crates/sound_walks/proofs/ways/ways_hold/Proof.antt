@@ -11,10 +11,10 @@ use Rattle.sound_walks.proofs.ways.ways_hold.Statement.{statement}
 use Rattle.sound_walks.proofs.ways.ways_hold.Tie as tie
 
 abbrev Inv-loop : tie.InvT-loop
-Inv-loop t listed ringed deep₀ from to i₀ deep i = (sweep (wayStep (tableOf t) listed ringed) (to - i) i deep ≡ sweep (wayStep (tableOf t) listed ringed) (to - i₀) i₀ deep₀) × (length deep ≡ length deep₀)
+Inv-loop t listed deep₀ from to i₀ deep i = (sweep (wayStep (tableOf t) listed) (to - i) i deep ≡ sweep (wayStep (tableOf t) listed) (to - i₀) i₀ deep₀) × (length deep ≡ length deep₀)
 
 abbrev μ-loop : tie.MeasureT-loop
-μ-loop t listed ringed deep₀ from to i₀ deep i = to - i
+μ-loop t listed deep₀ from to i₀ deep i = to - i
 
 pub ways-hold-spec : {M : Type 1} → statement M
 ways-hold-spec =

@@ -1,11 +1,11 @@
 use lib.Seq.{set-out}
 use mathlib.Core.Path.{sym}
 use borrow.Author.Needs.{needs}
-use Rattle.sound_walks.proofs.marks.note_depth.Statement.{statement}
-use Rattle.sound_walks.proofs.marks.note_depth.Tie as tie
+use Rattle.sound_slots.proofs.numbers.set_number.Statement.{statement}
+use Rattle.sound_slots.proofs.numbers.set_number.Tie as tie
 
-pub note-depth-spec : {M : Type 1} → statement M
-note-depth-spec =
+pub set-number-spec : {M : Type 1} → statement M
+set-number-spec =
     tie.close (tie.spec
     (λ c. search needs)
     (λ c. search needs)
