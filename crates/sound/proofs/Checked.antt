@@ -286,8 +286,8 @@ module _ (ws : List ℕ) where
         rings : (n : ℕ) → PresentBlossom tab n → Ring tab n
         rings = ring-exact tab full below (undamaged tab full sized held numbered defect judged empty) unbroken inner-number
 
-        owner : (n : ℕ) → T (inner tab n) → up tab n ≢ none → PresentBlossom tab (up tab n)
-        owner n i _ = ring-owner tab full below (undamaged tab full sized held numbered defect judged empty) unbroken inner-number n i .0
+        owner : (n : ℕ) → T (inner tab n) → PresentBlossom tab (up tab n)
+        owner n i = ring-owner tab full below (undamaged tab full sized held numbered defect judged empty) unbroken inner-number n i .0
 
         ways : (n : ℕ) → T (outer tab n) → T (ends 257 (up tab) n)
         ways n o =
