@@ -9,7 +9,7 @@ use sound_slots::numbers::set_number;
 use sound_slots::truth::both;
 use table::Table;
 ghost use mathlib.Core.Path.{_≡_};
-ghost use Prim.Native.Nat.{_+_, _-_, _%_, _^_};
+ghost use Prim.Native.Nat.{_-_};
 ghost use Rattle.lists.specs.Choice.{pick};
 ghost use Rattle.table.specs.Words.{tableOf};
 ghost use Rattle.sound_walks.specs.Numbers.{numbersOf, isNext, isOddRing, ringNumbered, blossomNumbered, nodeNumbered, outerNumbered, outersNumbered};
