@@ -211,6 +211,12 @@ static void try_nest(Shot *shot, uint32_t depth) {
     }
 }
 
+/* on dice of their own, so that the requests of a seed stay what they are */
+static void try_nests(Shot aside) {
+    try_nest(&aside, 50);
+    try_nest(&aside, DEEPEST);
+}
+
 /* ---- runs */
 
 static void damage_tape(Dice *dice, Bytes *tape) {
@@ -306,7 +312,7 @@ static void play(const char *original, uint64_t seed) {
     memset(words, FILL, sizeof words);
     if (boltclover_make(words, shot.begin)) difference("making", shot_number, 0, NULL);
     try_make(&shot);
-    if (shot_number % 8 == 0) try_nest(&shot, 50), try_nest(&shot, DEEPEST);
+    if (shot_number % 8 == 0) try_nests(shot);
     counts.shots++, counts.by_plan[shot.plan]++;
     counts.begins += !counts.begin_used[shot.begin], counts.begin_used[shot.begin] = 1;
     for (step_number = 0; step_number < shot.length; step_number++) {
