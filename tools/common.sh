@@ -151,7 +151,7 @@ build() {
 
 # The sources that the tools share, and one of their own.
 build_tool() {
-    build "target/tools/$1" "tools/src/$1.c" tools/src/view.c tools/src/judge.c tools/src/shots.c tools/src/original.c tools/src/port.c \
+    build "target/tools/$1" "tools/src/$1.c" tools/src/view.c tools/src/judge.c tools/src/shots.c tools/src/nests.c tools/src/original.c tools/src/port.c \
         tools/src/progress.c || missing "tools/src/$1.c could not be built with $cc; its words stand above"
 }
 

@@ -7,6 +7,7 @@
 #include <string.h>
 
 #include "judge.h"
+#include "nests.h"
 #include "original.h"
 #include "port.h"
 #include "progress.h"
@@ -18,7 +19,7 @@ enum { ROOM = 8192, RUN_BYTES = 65536, BATCH = 2000, FILL = 0xa5 };
 /* ---- counts */
 
 static struct {
-    unsigned long accepted[ROWS], refused[14], stops[4], runs, tapes, tables, kept_sound, damaged, broken[9], differences, shots, begins;
+    unsigned long accepted[ROWS], refused[14], stops[4], runs, tapes, tables, kept_sound, damaged, broken[9], nests, nests_broken[9], differences, shots, begins;
     unsigned long by_plan[PLANS], nested_expansions[3], commands;
     int deepest, largest_tree, longest_way, largest_ring;
     unsigned char begin_used[257];
@@ -192,6 +193,30 @@ static void try_damage(const char *original, Shot *shot, const uint16_t *words) 
         difference("a run on a damaged table", shot_number, step_number, NULL);
 }
 
+/* ---- nests, sound and bent: the check alone, which other requests only start with */
+
+static void try_nest(Shot *shot, uint32_t depth) {
+    static View t;
+    uint16_t words[WORDS], bent[WORDS], kept[WORDS];
+    if (!build_nest(&shot->dice, words, depth)) difference("a nest is refused", shot_number, 0, NULL);
+    for (int i = 0; i < 24; i++) {
+        memcpy(bent, words, sizeof bent);
+        if (i) bend_nest(shot, bent, depth);
+        memcpy(kept, bent, sizeof kept);
+        read_view(&t, bent);
+        int broken = broken_rule(&t);
+        counts.nests++, counts.nests_broken[broken]++;
+        if (boltclover_sound(bent) != !broken || memcmp(kept, bent, sizeof kept) || (!i && broken))
+            difference(broken ? "a nest sound to the port alone" : "a nest sound to the second reading alone", shot_number, i, NULL);
+    }
+}
+
+/* on dice of their own, so that the requests of a seed stay what they are */
+static void try_nests(Shot aside) {
+    try_nest(&aside, 50);
+    try_nest(&aside, DEEPEST);
+}
+
 /* ---- runs */
 
 static void damage_tape(Dice *dice, Bytes *tape) {
@@ -287,6 +312,7 @@ static void play(const char *original, uint64_t seed) {
     memset(words, FILL, sizeof words);
     if (boltclover_make(words, shot.begin)) difference("making", shot_number, 0, NULL);
     try_make(&shot);
+    if (shot_number % 8 == 0) try_nests(shot);
     counts.shots++, counts.by_plan[shot.plan]++;
     counts.begins += !counts.begin_used[shot.begin], counts.begin_used[shot.begin] = 1;
     for (step_number = 0; step_number < shot.length; step_number++) {
@@ -318,6 +344,8 @@ static void report(uint64_t seed) {
     printf("deepest nesting %d, largest ring %d, largest tree %d nodes, longest way to a root %d nodes\n", counts.deepest, counts.largest_ring, counts.largest_tree, counts.longest_way + 1);
     printf("damaged tables: %lu, still sound %lu; the first rule broken:", counts.damaged, counts.broken[0]);
     for (int i = 1; i < 9; i++) printf(" S%d %lu%s", i, counts.broken[i], i < 8 ? "," : "\n");
+    printf("nests of 50 and of 85 blossoms: %lu, sound %lu; the first rule broken:", counts.nests, counts.nests_broken[0]);
+    for (int i = 1; i < 9; i++) printf(" S%d %lu%s", i, counts.nests_broken[i], i < 8 ? "," : "\n");
     printf("refusals:");
     for (int i = 1; i < 14; i++) printf(" %d: %lu%s", i, counts.refused[i], i < 13 ? "," : "\n");
     printf("runs: %lu, stopped by the tape's end %lu, the allowance %lu, room %lu, a bad record %lu\n", counts.runs, counts.stops[0], counts.stops[1], counts.stops[2], counts.stops[3]);

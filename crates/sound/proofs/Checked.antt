@@ -1,6 +1,6 @@
 -- The check and the rules: sizes, then each slot by itself, then the passes along pointers.
 use mathlib.Core.Path.{_≡_, refl, sym, ap, _∙_}
-use mathlib.Core.Logic.{_≢_, _⊎_, inl, inr}
+use mathlib.Core.Logic.{_⊎_, inl, inr}
 use mathlib.Core.List.{List}
 use mathlib.Core.Bool.{Bool, true, false, not, _&&_}
 use Prim.Native.Nat.{ℕ, _+_, _*_, _-_, _≤_, _<_}
@@ -25,7 +25,7 @@ use Rattle.rules.specs.Sound.{_⇒_, S5, S7, sizesHold, isDefectInside, isBare,
 use Rattle.theorems_soundness.specs.Facts.{Sizes, Given, Rest}
 use Rattle.theorems_soundness.specs.FactsOfBlossoms.{PresentBlossom, Ring}
 use Rattle.theorems_soundness.proofs.Reflect.{tests, true-test, test-true, test-false, and→, imp→, eqb-no, not-eqb↔}
-use Rattle.theorems_soundness.proofs.ReflectSlots.{sameLink↔, outer-present, inner-present, outer-not-inner}
+use Rattle.theorems_soundness.proofs.ReflectSlots.{sameLink↔, outer-present, outer-not-inner}
 use Rattle.theorems_soundness.proofs.Past.{at-none, present-below}
 use Rattle.theorems_soundness.proofs.ChildLaws.{above-outer}
 use Rattle.theorems_soundness.proofs.SizesAndPointers.{sizes↔}
@@ -286,8 +286,8 @@ module _ (ws : List ℕ) where
         rings : (n : ℕ) → PresentBlossom tab n → Ring tab n
         rings = ring-exact tab full below (undamaged tab full sized held numbered defect judged empty) unbroken inner-number
 
-        owner : (n : ℕ) → T (inner tab n) → up tab n ≢ none → PresentBlossom tab (up tab n)
-        owner n i _ = ring-owner tab full below (undamaged tab full sized held numbered defect judged empty) unbroken inner-number n i .0
+        owner : (n : ℕ) → T (inner tab n) → PresentBlossom tab (up tab n)
+        owner n i = ring-owner tab full below (undamaged tab full sized held numbered defect judged empty) unbroken inner-number n i .0
 
         ways : (n : ℕ) → T (outer tab n) → T (ends 257 (up tab) n)
         ways n o =

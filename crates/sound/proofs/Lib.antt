@@ -8,6 +8,7 @@ pub mod SlotTests
 pub mod Nests
 pub mod Filled
 pub mod Stretches
+pub mod RingsNumbered
 pub mod InsideByNumbers
 pub mod RingsWalked
 pub mod Checked

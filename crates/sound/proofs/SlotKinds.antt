@@ -222,29 +222,26 @@ module _ (t : Table) (full : Full t) (sizes : Sizes t) (held : ℕ → ℕ → B
     -- ---- inner nodes
 
     inner-parts : (n : ℕ) → at t n .state ≡ S.Inner
-        → T (isThrough (at t n .link) && isNone (at t n .firstChild) && isSome (up t n) && ltb n (up t n))
+        → T (isThrough (at t n .link) && isNone (at t n .firstChild) && ltb n (up t n))
         × T (numbered n)
         × T (touchesHold held n (next t n) (at t n .link))
     unfolding innerHolds
     inner-parts n e =
-        let q = and→ (isThrough (at t n .link) && isNone (at t n .firstChild) && isSome (up t n) && ltb n (up t n)) _ (rule n S.Inner e tt) in
+        let q = and→ (isThrough (at t n .link) && isNone (at t n .firstChild) && ltb n (up t n)) _ (rule n S.Inner e tt) in
         let r = and→ (numbered n) (touchesHold held n (next t n) (at t n .link)) (q .1) in
         (q .0, r .0, r .1)
 
     pub inner-numbered : (n : ℕ) → T (inner t n) → T (numbered n)
     inner-numbered n i = inner-parts n (inner↔ _ .0 i) .1
 
-    pub inner-child : (n : ℕ) → T (inner t n) → up t n ≢ none
-    inner-child n i = let r = simp tests at (inner-parts n (inner↔ _ .0 i) .0) in r .0 .1
-
     pub inner-childless : (n : ℕ) → T (inner t n) → at t n .firstChild ≡ none
-    inner-childless n i = let r = simp tests at (inner-parts n (inner↔ _ .0 i) .0) in r .0 .0 .1
+    inner-childless n i = let r = simp tests at (inner-parts n (inner↔ _ .0 i) .0) in r .0 .1
 
     pub in-blossom : (n : ℕ) → T (inner t n) → PresentBlossom t (up t n) → InBlossom t n
     in-blossom n i b =
         let h = inner-parts n (inner↔ _ .0 i) in
         let r = simp tests at (h .0) in
-        record { linked = full-link n (next t n) (at t n .link) (simp tests (r .0 .0 .0)) (h .2); childless = r .0 .0 .1; parent = b; larger = r .1 }
+        record { linked = full-link n (next t n) (at t n .link) (simp tests (r .0 .0)) (h .2); childless = r .0 .1; parent = b; larger = r .1 }
 
     -- ---- S8
 

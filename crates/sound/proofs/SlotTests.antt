@@ -63,8 +63,8 @@ module _ (t : Table) (full : Full t) (h : T (sound t)) (held : ℕ → ℕ → B
     inner-test e =
         let i : T (inner t n) = rw e tt in
         let b = rest .inners n i in
-        →and (isThrough (at t n .link) && isNone (at t n .firstChild) && isSome (up t n) && ltb n (up t n)) (numbered n && touchesHold held n (next t n) (at t n .link))
-        (simp tests ((((b .linked .has-through, b .linked .has-peer-through), b .childless), present-some t full (up t n) (b .parent .there)), b .larger))
+        →and (isThrough (at t n .link) && isNone (at t n .firstChild) && ltb n (up t n)) (numbered n && touchesHold held n (next t n) (at t n .link))
+        (simp tests (((b .linked .has-through, b .linked .has-peer-through), b .childless), b .larger))
         (→and (numbered n) (touchesHold held n (next t n) (at t n .link)) (all-numbered n i) (touching n (next t n) (far-end-inner t n i) (b .linked)))
 
     virtual-test : Virtual (at t n) → T (stayHolds t held n (at t n))

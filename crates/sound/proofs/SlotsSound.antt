@@ -27,14 +27,14 @@ use Rattle.theorems_soundness.proofs.SoundParts.{rule→sound}
 use Rattle.theorems_soundness.proofs.ChildLaws.{next-child}
 use Rattle.theorems_soundness.proofs.RingLaws.{ring-first, ring-next}
 use Rattle.sound.specs.OneSlot.{slotHolds}
-use Rattle.sound.proofs.SlotKinds.{kind, undamaged, ring-owner, inner-child, in-blossom, touches}
+use Rattle.sound.proofs.SlotKinds.{kind, undamaged, ring-owner, in-blossom, touches}
 
 module _ (t : Table) (full : Full t) (sizes : Sizes t) (held : ℕ → ℕ → Bool) (numbered : ℕ → Bool)
     (defect : (x n : ℕ) → T (held x n) → n < t .begin)
     (judged : (n : ℕ) → T (present t n) → T (slotHolds t held numbered n))
     (empty : (n : ℕ) → at t n .state ≡ S.Empty → at t n ≡ emptySlot)
     (given : (n : ℕ) → T (present t n) → Given t n)
-    (owner : (n : ℕ) → T (inner t n) → up t n ≢ none → PresentBlossom t (up t n))
+    (owner : (n : ℕ) → T (inner t n) → PresentBlossom t (up t n))
     (lists : (n : ℕ) → T (s5 t n))
     (rings : (n : ℕ) → PresentBlossom t n → Ring t n)
     (ways : (n : ℕ) → T (outer t n) → T (ends 257 (up t) n))
@@ -46,7 +46,7 @@ module _ (t : Table) (full : Full t) (sizes : Sizes t) (held : ℕ → ℕ → B
     kinds = kind t full sizes held numbered defect judged empty first
 
     pub inners : (n : ℕ) → T (inner t n) → InBlossom t n
-    inners n i = in-blossom t full sizes held numbered defect judged empty n i (owner n i (inner-child t full sizes held numbered defect judged empty n i))
+    inners n i = in-blossom t full sizes held numbered defect judged empty n i (owner n i)
 
     sixth : (n : ℕ) → T (s6 t n)
     sixth n = facts→s6 t full n (rings n) (inners n)

@@ -1,30 +1,19 @@
 -- What numbering some nodes does, where rings are exact and climbs end: they get numbers and stretches between the next number before
 -- and the next one after, nothing else changes, and a stretch holds a defect's number exactly if its blossom holds the defect.
-use mathlib.Core.Path.{_≡_, refl, sym, ap, _∙_}
+use mathlib.Core.Path.{_≡_, refl, _∙_}
 use mathlib.Core.Logic.{_≢_, _↔_, _⊎_, inl, inr}
-use mathlib.Core.Bool.{Bool, true, false}
-use mathlib.Core.List.{List, [], _∷_}
+use mathlib.Core.List.{List}
 use Prim.Native.Nat.{ℕ, _+_, _%_, _^_, _≤_, _<_}
 use native.Mathlib.Omega.{arith}
-use lib.Dec.{T, eqb}
-use lib.ListN.{length, getD, set}
+use lib.ListN.{getD, set}
 use lib.Seq.{getD-set-same, getD-set-other}
-use borrow.Author.Tests.{le-leb, lt-leb}
-use Rattle.lists.specs.Choice.{pick}
-use Rattle.table.specs.Table.{Table, at, Full}
-use Rattle.table.specs.Nodes.{isBlossom, present, outer, inner}
-use Rattle.rules.specs.Slots.{up, next}
-use Rattle.rules.specs.Sound.{isInnerChild}
-use Rattle.theorems_soundness.specs.Chain.{_∈_, NoDup}
-use Rattle.theorems_soundness.specs.FactsOfBlossoms.{PresentBlossom, InnerChild, Ring, Inside}
-use Rattle.theorems_soundness.proofs.Reflect.{tests, test-true, test-false, same-or-not, eqb-no, eqb-yes}
-use Rattle.theorems_soundness.proofs.ReflectSlots.{inner-present}
-use Rattle.theorems_soundness.proofs.Past.{present-below}
-use Rattle.theorems_soundness.proofs.RingLaws.{ring-once}
-use Rattle.theorems_soundness.proofs.InsideLaws.{inside-self, inside-ring-node, inside-join, inside-ring}
-use Rattle.sound_walks.specs.Numbers.{Numbers, counted, begun, ended, isNext, nodeBy, ringNumbered, nodeNumbered}
+use Rattle.table.specs.Table.{Table, at}
+use Rattle.rules.specs.Slots.{next}
+use Rattle.theorems_soundness.specs.FactsOfBlossoms.{Inside}
+use Rattle.theorems_soundness.proofs.InsideLaws.{inside-self}
+use Rattle.sound_walks.specs.Numbers.{Numbers, counted, begun, ended}
 use Rattle.sound.proofs.Nests.{Nest, defect-alone}
-use Rattle.sound.proofs.Filled.{Fits, no-wrap, counted-fits, begun-fits, ended-fits}
+use Rattle.sound.proofs.Filled.{Fits, no-wrap, counted-fits, ended-fits}
 
 abbrev pub numberIn : Numbers → ℕ → ℕ
 numberIn w y = getD (w .lo) y 0

@@ -15,18 +15,10 @@ use Rattle.sound_slots.specs.Links.{isThrough, isHeld, isNumbered, touch
 use Rattle.sound_slots.proofs.LinksSteps.{stops, goes}
 use Rattle.sound_slots.specs.States.{innerHolds, stayHolds, growHolds, shrinkHolds}
 
--- tests put together one after another
-module _ (p q a b x y : Bool) (e : p ≡ q) (f : x ≡ (p && a)) (g : y ≡ (x && b)) where
-  joined : y ≡ (q && a && b)
-  joined = rw (g, f, e)
-
-  joined-more : (c z : Bool) → z ≡ (y && c) → z ≡ (q && a && b && c)
-  joined-more c z h = rw (h, joined)
-
 -- an inner node, by its number
-module _ (t : Table) (lo hi : List ℕ) (n : ℕ) (s : Slot) (through bare named larger : Bool) (e : through ≡ isThrough (s .link)) (f : bare ≡ (through && isNone (s .firstChild))) (g : named ≡ (bare && isSome (s .parent))) (h : larger ≡ (named && ltb n (s .parent))) where
-  inner-test : (isThrough (s .link) && isNone (s .firstChild) && isSome (s .parent) && ltb n (s .parent)) ≡ larger
-  inner-test = sym (joined-more _ _ _ _ _ _ e f g _ _ h)
+module _ (t : Table) (lo hi : List ℕ) (n : ℕ) (s : Slot) (through bare larger : Bool) (e : through ≡ isThrough (s .link)) (f : bare ≡ (through && isNone (s .firstChild))) (h : larger ≡ (bare && ltb n (s .parent))) where
+  inner-test : (isThrough (s .link) && isNone (s .firstChild) && ltb n (s .parent)) ≡ larger
+  inner-test = rw (h, f, e)
 
   pub inner-stops : larger ≡ false → false ≡ innerHolds (isHeld t lo hi) (isNumbered lo) n s
   unfolding innerHolds

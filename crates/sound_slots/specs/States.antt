@@ -12,7 +12,7 @@ use Rattle.sound_slots.specs.Links.{isThrough, touchesHold, pairHolds}
 -- S6 and S7 of an inner node; it has a number, so its parent is a blossom that has it on its ring
 unfoldable pub innerHolds : (ℕ → ℕ → Bool) → (ℕ → Bool) → ℕ → Slot → Bool
 innerHolds held numbered n s =
-    (isThrough (s .link) && isNone (s .firstChild) && isSome (s .parent) && ltb n (s .parent))
+    (isThrough (s .link) && isNone (s .firstChild) && ltb n (s .parent))
     && (numbered n && touchesHold held n (s .sibling) (s .link))
 
 -- S3: only a matched node stays

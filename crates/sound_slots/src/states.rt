@@ -24,8 +24,7 @@ pub fn inner_holds<'a>(t: &Table, lo: &'a [u16], hi: &'a [u16], n: Node, s: Slot
     let next = s.sibling;
     let through = value::is_through(link);
     let bare = both(through, s.first_child.0 == slot::number::NO_NODE);
-    let named = both(bare, above.0 != slot::number::NO_NODE);
-    let larger = both(named, n.0 < above.0);
+    let larger = both(bare, n.0 < above.0);
     if !larger {
         return false;
     }

@@ -1,7 +1,7 @@
 -- Numbers on small tables: a blossom in a blossom, and rings and parents that are no sound table's.
 use mathlib.Core.Path.{_≡_, refl}
 use mathlib.Core.Bool.{true, false}
-use mathlib.Core.List.{List, [], _∷_}
+use mathlib.Core.List.{[], _∷_}
 use Prim.Native.Nat.{ℕ}
 use lib.ListN.{replicate}
 use Rattle.slot.specs.declared.state.State.{State}

@@ -1,7 +1,7 @@
 -- Numbers of insides, step by step as the code gives them.
 use mathlib.Core.Path.{_≡_, refl, sym, _∙_}
 use mathlib.Core.List.{List}
-use mathlib.Core.Bool.{Bool, true, false, _&&_}
+use mathlib.Core.Bool.{Bool, true, false}
 use Prim.Native.Nat.{ℕ, zero, suc, _+_, _-_, _%_, _^_, _≤_, _<_}
 use native.Mathlib.Numerals.{add-one}
 use lib.Dec.{eqb}
@@ -13,15 +13,19 @@ use Rattle.table.specs.Table.{Table, at}
 use Rattle.table.specs.Nodes.{isBlossom, outer, inner}
 use Rattle.sound_walks.specs.Numbers.{Numbers, numbersOf, isNext, isOddRing, blossomBy, nodeBy, onward, ringFrom, ringNumbered, blossomNumbered, nodeNumbered, outerNumbered, outersNumbered}
 
-pub next-step :
-    (t : Table) (l : List ℕ) (b n above number : ℕ) (inside owned r : Bool)
-    → inside ≡ inner t n
-    → above ≡ at t n .parent
-    → number ≡ getD l n 0
-    → owned ≡ (inside && eqb above b)
-    → r ≡ (owned && eqb number 0)
-    → r ≡ isNext t l b n
-next-step t l b n above number inside owned r e f g h i = i ∙ rw (h, e, f, g)
+module _ (t : Table) (l : List ℕ) (b n : ℕ) (inside : Bool) (e : inside ≡ inner t n) where
+  pub next-outer : inside ≡ false → false ≡ isNext t l b n
+  next-outer h = let i : inner t n ≡ false = sym e ∙ h in rw i
+
+  module _ (h : inside ≡ true) (above : ℕ) (f : above ≡ at t n .parent) where
+    held : inner t n ≡ true
+    held = sym e ∙ h
+
+    pub next-other : (above ≡ b → ⊥) → false ≡ isNext t l b n
+    next-other d = rw (held, ← f, ne-eqb above b d)
+
+    pub next-decides : (number : ℕ) → above ≡ b → number ≡ getD l n 0 → eqb number 0 ≡ isNext t l b n
+    next-decides number q g = rw (held, ← f, eq-eqb above b q, g)
 
 -- ---- a node
 

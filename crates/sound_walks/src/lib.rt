@@ -1,5 +1,6 @@
-// What the passes of S5, S6 and S7 share. Their work is linear: a walk marks what it passes and stops at the first node that is
-// not its owner's; afterwards every node with a parent must be marked. Depths are remembered, so no node is climbed twice.
+// The walks of S5, S6 and S7. Their work is linear: along child lists a walk marks what it passes and stops at the first node that is
+// not its owner's, and around rings it gives numbers, which S8 asks for too; afterwards every node with a parent must be marked or have
+// a number. Depths are remembered, so no node is climbed twice.
 pub mod children;
 pub mod depths;
 pub mod marks;

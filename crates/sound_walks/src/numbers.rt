@@ -9,7 +9,7 @@ use sound_slots::numbers::set_number;
 use sound_slots::truth::both;
 use table::Table;
 ghost use mathlib.Core.Path.{_≡_};
-ghost use Prim.Native.Nat.{_+_, _-_, _%_, _^_};
+ghost use Prim.Native.Nat.{_-_};
 ghost use Rattle.lists.specs.Choice.{pick};
 ghost use Rattle.table.specs.Words.{tableOf};
 ghost use Rattle.sound_walks.specs.Numbers.{numbersOf, isNext, isOddRing, ringNumbered, blossomNumbered, nodeNumbered, outerNumbered, outersNumbered};
@@ -18,10 +18,15 @@ ghost use Rattle.sound_walks.specs.Numbers.{numbersOf, isNext, isOddRing
 fn is_next(t: &Table, lo: &[u16], b: Node, n: Node) -> bool
     ensures { λ r. ⌜ r ≡ isNext (tableOf (now (t .entry))) (now (lo .entry)) (b .0) (n .0) ⌝ }
 {
-    let inner = table::field::is_inner(t, n);
+    if !table::field::is_inner(t, n) {
+        return false;
+    }
     let above = table::field::parent(t, n);
+    if above.0 != b.0 {
+        return false;
+    }
     let number = number_of(lo, n);
-    both(both(inner, above.0 == b.0), number == 0)
+    number == 0
 }
 
 // Odd, at least 3.
