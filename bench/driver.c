@@ -33,7 +33,7 @@ static void must(int fine, const char *what)
 
 static void meet(uint16_t a, uint16_t b, uint16_t touch_a, uint16_t touch_b)
 {
-	size_t written;
+	boltclover_size written;
 	must(boltclover_conflict(table, a, b, touch_a, touch_b, 1000 + touch_a, 1000 + touch_b, out, MOST, &written) == 0, "a conflict is refused");
 }
 
@@ -89,7 +89,7 @@ static void run(size_t length, unsigned times)
 		while (at < length) {
 			uint16_t stop;
 			uint32_t handled;
-			size_t written, unread;
+			boltclover_size written, unread;
 			must(boltclover_run(table, tape + at, length - at, out, MOST, MOST, &stop, &handled, &written, &unread) == 0, "the run is refused");
 			must(stop == 0 || stop == 2, "the tape is bad");
 			requests += handled;
@@ -111,7 +111,7 @@ static void check(void) { must(boltclover_sound(table) == 1, "the table is not s
 
 static void list(void)
 {
-	size_t written;
+	boltclover_size written;
 	must(boltclover_list(table, out, MOST, &written) == 0, "the listing is refused");
 }
 
@@ -120,7 +120,7 @@ static uint16_t node, touch;
 
 static void match(void)
 {
-	size_t written;
+	boltclover_size written;
 	must(boltclover_virtual_conflict(table, node, touch, 1, 2, out, MOST, &written) == 0, "the virtual conflict is refused");
 }
 
@@ -175,7 +175,7 @@ int main(int argc, char **argv)
 	} else if (strcmp(argv[1], "stack") == 0) {
 		measure(argv[2]);
 	} else {
-		size_t written = 0;
+		boltclover_size written = 0;
 		must(argc == 4, "a table and a number");
 		build(argv[2]);
 		for (int i = 0; i < atoi(argv[3]); i++) {
@@ -184,7 +184,7 @@ int main(int argc, char **argv)
 			else
 				must(boltclover_list(table, out, MOST, &written) == 0, "the listing is refused");
 		}
-		printf("bytes listed %zu\n", written);
+		printf("bytes listed %zu\n", (size_t)written);
 	}
 	return 0;
 }

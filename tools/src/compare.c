@@ -138,7 +138,7 @@ static void measure(const View *t, const Request *r, Row row, const View *after)
 
 /* One request: the number against the second reading, a refusal's bytes and table against those before, an accepted one's
    against the original's. Says whether it was accepted; what was said stands in out. */
-static int try_request(const char *original, uint16_t *words, const Request *r, size_t room, uint8_t *out, size_t *written) {
+static int try_request(const char *original, uint16_t *words, const Request *r, size_t room, uint8_t *out, boltclover_size *written) {
     static View before, after;
     static uint16_t kept[WORDS];
     read_view(&before, words);
@@ -170,7 +170,7 @@ static void try_damage(const char *original, Shot *shot, const uint16_t *words) 
     static View t;
     uint16_t hurt[WORDS], kept[WORDS];
     uint8_t out[ROOM];
-    size_t written, unread;
+    boltclover_size written, unread;
     read_view(&t, words);
     memcpy(hurt, words, sizeof hurt);
     damage_table(shot, &t, hurt);
@@ -233,7 +233,7 @@ static void try_run(Shot *shot, const Bytes *good) {
     int why;
     for (;; count++) {
         Request r;
-        size_t wrote = 0;
+        boltclover_size wrote = 0;
         if (at == tape.length) { why = 0; break; }
         if (count == allowance) { why = 1; break; }
         if (room - pos < 4102) { why = 2; break; }
@@ -248,7 +248,7 @@ static void try_run(Shot *shot, const Bytes *good) {
     }
     uint16_t stop;
     uint32_t handled;
-    size_t written, unread;
+    boltclover_size written, unread;
     int given = boltclover_run(words, tape.bytes, tape.length, out, room, allowance, &stop, &handled, &written, &unread);
     counts.runs++, counts.stops[why]++;
     if (given || stop != why || handled != count || written != pos || unread != tape.length - at || memcmp(out, want, sizeof out) || memcmp(words, want_words, sizeof words))
@@ -282,7 +282,7 @@ static void play(const char *original, uint64_t seed) {
     uint16_t words[WORDS];
     uint8_t out[ROOM], record[LONGEST_REQUEST];
     const uint8_t end[] = {4, 0, 19, 0, 0, 0};
-    size_t written;
+    boltclover_size written;
     every.length = answers.length = shot_tape.length = 0;
     memset(words, FILL, sizeof words);
     if (boltclover_make(words, shot.begin)) difference("making", shot_number, 0, NULL);
