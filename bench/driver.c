@@ -6,8 +6,7 @@
  *   driver reset TIMES           emptying a table
  *   driver stack TABLE           the bytes of stack that the deepest calls on a table touch
  *
- * TABLE is fresh, half (128 nodes in pairs), pairs (256 nodes in pairs), tree (255 nodes, one path), wide (255 nodes, every pair
- * at the root), nested (85 blossoms, each in the next).
+ * TABLE is fresh, half, pairs, tree, wide or nested, as tools/src/deep.h says.
  */
 #include <stdint.h>
 #include <stdio.h>
@@ -15,6 +14,7 @@
 #include <string.h>
 #include <ucontext.h>
 
+#include "../tools/src/deep.h"
 #include "boltclover.h"
 
 #define MOST 65536
@@ -37,44 +37,15 @@ static void meet(uint16_t a, uint16_t b, uint16_t touch_a, uint16_t touch_b)
 	must(boltclover_conflict(table, a, b, touch_a, touch_b, 1000 + touch_a, 1000 + touch_b, out, MOST, &written) == 0, "a conflict is refused");
 }
 
-static void pairs(uint16_t from, uint16_t to)
-{
-	for (uint16_t n = from; n + 1 < to; n += 2)
-		meet(n, n + 1, n, n + 1);
-}
-
-/* 85 blossoms on 171 defects: each takes the one before it and a pair more; every touch of a blossom is defect 0 */
-static void nest(void)
-{
-	uint16_t inside = 0;
-	pairs(1, 171);
-	for (uint16_t k = 0; k < 85; k++) {
-		uint16_t minus = 1 + 2 * k, plus = 2 + 2 * k;
-		meet(inside, minus, 0, minus);
-		meet(inside, plus, 0, plus);
-		inside = 171 + k;
-	}
-}
+static void make(uint16_t begin) { must(boltclover_make(table, begin) == 0, "making is refused"); }
 
 static void build(const char *name)
 {
-	must(boltclover_make(table, strcmp(name, "nested") == 0 ? 171 : strcmp(name, "fresh") == 0 ? 128 : 256) == 0, "making is refused");
-	if (strcmp(name, "half") == 0)
-		pairs(0, 128);
-	else if (strcmp(name, "pairs") == 0)
-		pairs(0, 256);
-	else if (strcmp(name, "tree") == 0) {
-		pairs(1, 255);
-		for (uint16_t n = 0; n + 2 < 255; n += 2)
-			meet(n, n + 1, n, n + 1);
-	} else if (strcmp(name, "wide") == 0) {
-		pairs(1, 255);
-		for (uint16_t n = 0; n + 2 < 255; n += 2)
-			meet(0, n + 1, 0, n + 1);
-	} else if (strcmp(name, "nested") == 0)
-		nest();
-	else
-		must(strcmp(name, "fresh") == 0, "no such table");
+	int which = 0;
+	while (which < DEEP_TABLES && strcmp(name, deep_names[which]) != 0)
+		which++;
+	must(which < DEEP_TABLES, "no such table");
+	deep_table(which, make, meet);
 }
 
 static void run(size_t length, unsigned times)

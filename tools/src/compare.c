@@ -194,24 +194,6 @@ static void try_damage(const char *original, Shot *shot, const uint16_t *words) 
 
 /* ---- runs */
 
-static void damage_tape(Dice *dice, Bytes *tape) {
-    if (tape->length < 8 || chance(dice, 1, 3)) return;
-    size_t at = 0, records = roll(dice, 40);
-    for (Request r; records > 0 && at + 8 < tape->length; records--) {
-        int size = read_request(&r, tape->bytes + at, tape->length - at);
-        if (!size || at + size >= tape->length) break;
-        at += size;
-    }
-    static const uint16_t kinds[] = {0, 6, 15, 16, 17, 18, 19, 20, 21, 22, 255, 256, 65535};
-    switch (roll(dice, 5)) {
-    case 0: tape->length -= 1 + roll(dice, 7); break;                                    /* cut short */
-    case 1: tape->bytes[at + 2] = kinds[roll(dice, 13)]; break;                           /* other kind */
-    case 2: tape->bytes[at + 3] = roll(dice, 256); break;                                 /* other kind, high byte */
-    case 3: tape->bytes[at] = roll(dice, 24); break;                                      /* other length */
-    default: tape->bytes[at + roll(dice, 8 < tape->length - at ? 8 : 1)] ^= 1u << roll(dice, 8); /* one bit anywhere */
-    }
-}
-
 /* A run against its sentences in 01, over the calls of single requests that are compared above. */
 static void try_run(Shot *shot, const Bytes *good) {
     static uint8_t out[RUN_BYTES], want[RUN_BYTES];
@@ -221,7 +203,7 @@ static void try_run(Shot *shot, const Bytes *good) {
     Dice *d = &shot->dice;
     tape.length = 0;
     append(&tape, good->bytes, good->length);
-    damage_tape(d, &tape);
+    damage_tape(d, tape.bytes, &tape.length);
     size_t room = chance(d, 1, 3) ? 4000 + roll(d, 3000) : roll(d, RUN_BYTES + 1);
     uint32_t allowance = chance(d, 1, 2) ? 100000 : roll(d, 300);
     boltclover_make(words, shot->begin);
