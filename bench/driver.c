@@ -6,7 +6,7 @@
  *   driver reset TIMES           emptying a table
  *   driver stack TABLE           the bytes of stack that the deepest calls on a table touch
  *
- * TABLE is fresh, half, pairs, tree, wide or nested, as tools/src/deep.h says.
+ * TABLE is fresh, half, pairs, tree, wide, nested or outside, as tools/src/deep.h says.
  */
 #include <stdint.h>
 #include <stdio.h>
@@ -126,9 +126,9 @@ static void measure(const char *name)
 		build(name);
 		node = touch = 0;
 		printf("virtual conflict at the root %zu\n", touched(match) - own);
-	} else if (strcmp(name, "nested") == 0) {
+	} else if (strcmp(name, "nested") == 0 || strcmp(name, "outside") == 0) {
 		node = 255;
-		touch = 0;
+		touch = strcmp(name, "nested") == 0 ? 0 : 170;
 		printf("virtual conflict at the outermost blossom %zu\n", touched(match) - own);
 	}
 	printf("listing afterwards %zu\n", touched(list) - own);

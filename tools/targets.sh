@@ -8,7 +8,7 @@ targets='x86_64-linux aarch64-linux aarch64-none riscv64 riscv32 armv7-a cortex-
 #   for_what     in words
 #   target_words what clang is told of the target, and nothing else
 #   own_memory   yes, if the library brings memset and memcpy along, as weak symbols
-#   rust         Rust's name for the target
+#   rust_name    Rust's name for the target
 # A target without a system may have its memory without an MMU, where an access that is not aligned is a fault, and its vector or floating
 # registers off or not saved by interrupts: code for it keeps to aligned accesses and to the general registers. The calls pass no floating
 # numbers; the ABI is the one that the target's other code is usually built with, since linkers refuse to mix them.
@@ -18,48 +18,48 @@ about_target() {
     x86_64-linux)
         for_what='x86-64 Linux; the same code as rt staticlib makes'
         target_words='--target=x86_64-unknown-linux-gnu -march=x86-64'
-        own_memory='' rust=x86_64-unknown-linux-gnu
+        own_memory='' rust_name=x86_64-unknown-linux-gnu
         ;;
     aarch64-linux)
         for_what='64-bit Arm, Linux: Armv8-A'
         target_words='--target=aarch64-unknown-linux-gnu -march=armv8-a'
-        own_memory='' rust=aarch64-unknown-linux-gnu
+        own_memory='' rust_name=aarch64-unknown-linux-gnu
         ;;
     aarch64-none)
         for_what='64-bit Arm without a system: Armv8-A, aligned accesses, general registers alone'
         target_words='--target=aarch64-none-elf -march=armv8-a -mstrict-align -mgeneral-regs-only'
-        rust=aarch64-unknown-none
+        rust_name=aarch64-unknown-none
         ;;
     riscv64)
         for_what='64-bit RISC-V, with a system or without: RV64GC, ABI lp64d'
         target_words='--target=riscv64-unknown-elf -march=rv64gc -mabi=lp64d'
-        rust=riscv64gc-unknown-none-elf
+        rust_name=riscv64gc-unknown-none-elf
         ;;
     riscv32)
         for_what='32-bit RISC-V without a system: RV32IMAC, ABI ilp32'
         target_words='--target=riscv32-unknown-elf -march=rv32imac -mabi=ilp32'
-        rust=riscv32imac-unknown-none-elf
+        rust_name=riscv32imac-unknown-none-elf
         ;;
     # -meabi gnu: memset and memcpy by these names, and not __aeabi_memset and the like
     armv7-a)
         for_what='32-bit Arm, with a system or without: Armv7-A, A32, EABI with floating registers, no NEON, aligned accesses'
         target_words='--target=armv7a-none-eabihf -mfpu=vfpv3-d16 -mno-unaligned-access -meabi gnu'
-        rust=armv7a-none-eabihf
+        rust_name=armv7a-none-eabihf
         ;;
     cortex-r5f)
         for_what='Cortex-R5F without a system: Armv7-R, Thumb, EABI with floating registers, aligned accesses'
         target_words='--target=armv7r-none-eabihf -mthumb -mcpu=cortex-r5 -mfpu=vfpv3-d16 -mno-unaligned-access -meabi gnu'
-        rust=armv7r-none-eabihf
+        rust_name=armv7r-none-eabihf
         ;;
     cortex-m7)
         for_what='Cortex-M7 without a system: Armv7E-M, Thumb, EABI with floating registers, aligned accesses'
         target_words='--target=thumbv7em-none-eabihf -mcpu=cortex-m7 -mno-unaligned-access -meabi gnu'
-        rust=thumbv7em-none-eabihf
+        rust_name=thumbv7em-none-eabihf
         ;;
     wasm)
         for_what='WebAssembly, 32-bit, for browsers and Node'
         target_words='--target=wasm32-unknown-unknown'
-        rust=wasm32-unknown-unknown
+        rust_name=wasm32-unknown-unknown
         ;;
     *) return 1 ;;
     esac
