@@ -2,6 +2,10 @@
     .section .start, "ax"
     .globl _start
 _start:
+    .option push
+    .option norelax
+    lla gp, __global_pointer$
+    .option pop
     lla sp, stack_top
     lla t0, on_fault
     csrw mtvec, t0

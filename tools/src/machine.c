@@ -49,7 +49,10 @@ enum { READ = 63, WRITE = 64, EXIT = 93, OPEN_AT = 56 };
 #define LOAD "lw"
 #endif
 
-__attribute__((naked)) void _start(void) { __asm__("mv a0, sp\n andi sp, sp, -16\n call begin_with"); }
+/* gp is where linkers may have short ways from */
+__attribute__((naked)) void _start(void) {
+    __asm__(".option push\n .option norelax\n lla gp, __global_pointer$\n .option pop\n mv a0, sp\n andi sp, sp, -16\n call begin_with");
+}
 
 __attribute__((naked)) void call_on(UNUSED void *top, UNUSED void (*call)(void)) {
     __asm__("addi sp, sp, -16\n " SAVE " ra, 0(sp)\n " SAVE " s0, 8(sp)\n mv s0, sp\n mv sp, a0\n jalr a1\n mv sp, s0\n " LOAD " ra, 0(sp)\n " LOAD " s0, 8(sp)\n addi sp, sp, 16\n ret");
