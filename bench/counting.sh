@@ -10,7 +10,7 @@ want_counter() {
 
 # Builds the driver, and the plugin for the version of the interface that the emulator has.
 build_counter() {
-    build "$dir/driver" -Iinclude bench/driver.c || missing "bench/driver.c could not be built with $cc; its words stand above"
+    build "$dir/driver" -Iinclude bench/driver.c tools/src/deep.c || missing "bench/driver.c could not be built with $cc; its words stand above"
     printf 'int main(void) { return 0; }\n' >"$dir/small.c"
     # shellcheck disable=SC2086
     $cc $link ${CFLAGS:-} "$dir/small.c" -o "$dir/small" || missing "$cc does not compile a small program; its words stand above"

@@ -15,7 +15,8 @@
  *   tree (N 255)     a tree of N nodes, one path
  *   wide (N 255)     a tree of N nodes, every pair at the root
  *   nested (N 85)    N blossoms, each in the next, every touch the deepest defect
- *   settled (N 85)   the same, and the outermost matched to a virtual vertex
+ *   outside (N 85)   the same, every touch a defect of the outermost ring
+ *   settled (N 85)   nested, and the outermost matched to a virtual vertex
  *
  * WHAT is one of these, each between the last node that the table's name speaks of (a tree's last leaf, the outermost blossom, else
  * a new node) and another:
@@ -30,6 +31,7 @@
 #include <string.h>
 #include <ucontext.h>
 
+#include "../tools/src/deep.h"
 #include "boltclover.h"
 
 #define MOST 65536
@@ -48,28 +50,11 @@ static void must(int fine, const char *what)
 
 static void meet(uint16_t a, uint16_t b, uint16_t touch_a, uint16_t touch_b)
 {
-	size_t written;
+	boltclover_size written;
 	must(boltclover_conflict(table, a, b, touch_a, touch_b, 1000 + touch_a, 1000 + touch_b, out, MOST, &written) == 0, "a conflict is refused");
 }
 
-static void pairs(uint16_t from, uint16_t to)
-{
-	for (uint16_t n = from; n + 1 < to; n += 2)
-		meet(n, n + 1, n, n + 1);
-}
-
-/* N blossoms on 2 N + 1 defects: each takes the one before it and a pair more; every touch of a blossom is defect 0 */
-static void nest(uint16_t n)
-{
-	uint16_t inside = 0;
-	pairs(1, 2 * n + 1);
-	for (uint16_t k = 0; k < n; k++) {
-		uint16_t minus = 1 + 2 * k, plus = 2 + 2 * k;
-		meet(inside, minus, 0, minus);
-		meet(inside, plus, 0, plus);
-		inside = 171 + k;
-	}
-}
+static void make(uint16_t begin) { must(boltclover_make(table, begin) == 0, "making is refused"); }
 
 /* where the next conflict is: a node with its touch, and the first defect that the table does not name */
 static uint16_t end, end_touch, unnamed;
@@ -83,38 +68,29 @@ static int is(const char *name, const char *known)
 static void build(const char *name)
 {
 	const char *colon = strchr(name, ':');
-	int n = colon ? atoi(colon + 1) : 0;
-	if (is(name, "nested") || is(name, "settled")) {
-		n = colon ? n : 85;
-		must(n >= 0 && n <= 85, "there are 0 to 85 nested blossoms");
-		must(boltclover_make(table, 171) == 0, "making is refused");
-		nest(n);
-		end = n ? 170 + n : 0;
-		end_touch = 0;
+	int settled = is(name, "settled"), n, which = 0;
+	while (which < DEEP_TABLES && !is(settled ? "nested" : name, deep_names[which]))
+		which++;
+	must(which < DEEP_TABLES, "no such table");
+	n = colon ? atoi(colon + 1) : deep_sizes[which];
+	must(n >= 0 && n <= (which == HALF_TABLE ? 256 : deep_sizes[which]), "no table of that kind is so large");
+	must((which != TREE_TABLE && which != WIDE_TABLE) || n % 2 == 1, "a tree has 1, 3, .. 255 nodes");
+	must((which != HALF_TABLE && which != PAIRS_TABLE) || n % 2 == 0, "0, 2, .. 256 nodes are in pairs");
+	deep_table(which, n, make, meet);
+	if (which >= NESTED_TABLE) {
+		end = n ? DEEP_NEST + n - 1 : 0;
+		end_touch = which == OUTSIDE_TABLE ? 2 * n : 0;
 		unnamed = 2 * n + 1;
-		if (is(name, "settled")) {
-			size_t written;
-			must(boltclover_virtual_conflict(table, end, end_touch, 1, 2, out, MOST, &written) == 0, "the virtual conflict is refused");
-		}
-	} else if (is(name, "tree") || is(name, "wide")) {
-		n = colon ? n : 255;
-		must(n % 2 == 1 && n <= 255, "a tree has 1, 3, .. 255 nodes");
-		must(boltclover_make(table, n < 255 ? 255 : 256) == 0, "making is refused");
-		pairs(1, n);
-		for (uint16_t k = 0; k + 2 < n; k += 2) {
-			uint16_t plus = is(name, "tree") ? k : 0;
-			meet(plus, k + 1, plus, k + 1);
-		}
+	} else if (which >= TREE_TABLE) {
 		end = end_touch = n - 1;
 		unnamed = n;
 	} else {
-		n = is(name, "half") ? 128 : is(name, "pairs") && !colon ? 256 : n;
-		must(is(name, "half") || is(name, "pairs") || is(name, "fresh"), "no such table");
-		must(n % 2 == 0 && n >= 0 && n <= 256, "0, 2, .. 256 nodes are in pairs");
-		must(boltclover_make(table, is(name, "fresh") ? 128 : 256) == 0, "making is refused");
-		pairs(0, n);
 		end = end_touch = n;
 		unnamed = n + 1;
+	}
+	if (settled) {
+		boltclover_size written;
+		must(boltclover_virtual_conflict(table, end, end_touch, 1, 2, out, MOST, &written) == 0, "the virtual conflict is refused");
 	}
 }
 
@@ -130,7 +106,7 @@ static void run(size_t length, unsigned times)
 		while (at < length) {
 			uint16_t stop;
 			uint32_t handled;
-			size_t written, unread;
+			boltclover_size written, unread;
 			must(boltclover_run(table, tape + at, length - at, out, MOST, MOST, &stop, &handled, &written, &unread) == 0, "the run is refused");
 			must(stop == 0 || stop == 2, "the tape is bad");
 			requests += handled;
@@ -181,7 +157,7 @@ static void conflict(const char *what, unsigned times, int requested)
 	for (unsigned i = 0; i < times; i++) {
 		uint16_t stop;
 		uint32_t handled;
-		size_t written, unread;
+		boltclover_size written, unread;
 		memcpy(table, before, sizeof table);
 		must(boltclover_run(table, tape, length, out, MOST, MOST, &stop, &handled, &written, &unread) == 0, "the run is refused");
 		must(unread == 0 && (length == 0 || written > 6), "the conflict is refused");
@@ -199,7 +175,7 @@ static void check(void) { must(boltclover_sound(table) == 1, "the table is not s
 
 static void list(void)
 {
-	size_t written;
+	boltclover_size written;
 	must(boltclover_list(table, out, MOST, &written) == 0, "the listing is refused");
 }
 
@@ -208,7 +184,7 @@ static uint16_t node, touch;
 
 static void match(void)
 {
-	size_t written;
+	boltclover_size written;
 	must(boltclover_virtual_conflict(table, node, touch, 1, 2, out, MOST, &written) == 0, "the virtual conflict is refused");
 }
 
@@ -243,7 +219,7 @@ static void measure(const char *name)
 		build(name);
 		node = touch = 0;
 		printf("virtual conflict at the root %zu\n", touched(match) - own);
-	} else if (is(name, "nested")) {
+	} else if (is(name, "nested") || is(name, "outside")) {
 		node = end;
 		touch = end_touch;
 		printf("virtual conflict at the outermost blossom %zu\n", touched(match) - own);
@@ -267,7 +243,7 @@ int main(int argc, char **argv)
 		build(argv[2]);
 		conflict(argv[3], atoi(argv[4]), strcmp(argv[1], "conflict") == 0);
 	} else {
-		size_t written = 0;
+		boltclover_size written = 0;
 		must(argc == 4, "a table and a number");
 		build(argv[2]);
 		for (int i = 0; i < atoi(argv[3]); i++) {
@@ -276,7 +252,7 @@ int main(int argc, char **argv)
 			else
 				must(boltclover_list(table, out, MOST, &written) == 0, "the listing is refused");
 		}
-		printf("bytes listed %zu\n", written);
+		printf("bytes listed %zu\n", (size_t)written);
 	}
 	return 0;
 }

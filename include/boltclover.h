@@ -1,11 +1,17 @@
 /*
- * Boltclover: the primal half of a decoder that pairs detection events by Edmonds's blossom method, for C, C++ and Rust on x86-64 Linux.
- * Built by `rt staticlib primal_c` as target/staticlib/libprimal_c.a. The library has no memory of its own: it allocates
- * nothing, keeps nothing between calls, reads and writes no file, and wants one function of the C library, memset. Its calls
- * recurse as deep as trees and blossoms are; the most stack seen is 14,648 bytes (a tree of 255 nodes, augmented).
+ * Boltclover: the primal half of a decoder that pairs detection events by Edmonds's blossom method, for C, C++ and Rust.
+ * Built by `rt staticlib primal_c` for x86-64 Linux, as target/staticlib/libprimal_c.a, and by `tools/library` for Arm, RISC-V and
+ * WebAssembly too, as target/library/TARGET/libboltclover.a (docs/MACHINES.md). The library has no memory of its own: it
+ * allocates nothing, keeps nothing between calls, reads and writes no file, and wants no function but memset and memcpy, which a
+ * target without a system has in the library itself, to be replaced by the caller's own (weak symbols). Its calls recurse as deep
+ * as trees and blossoms are; docs/MACHINES.md has the most stack seen on each target.
+ *
+ * Numbers. Nodes have 16 bits, vertices and counts of requests 32. Lengths, room and counts of bytes are boltclover_size, 64 bits on
+ * every target, also where a pointer and size_t have 32: the library is one proved program, and in it they have 64 bits.
  *
  * What is lent. Every pointer is lent for the call alone. None may be NULL, also where its length is 0. A table is
- * BOLTCLOVER_TABLE_WORDS words, aligned as uint16_t, in any memory of the caller's (static, stack, heap). The objects of one
+ * BOLTCLOVER_TABLE_WORDS words, in any memory of the caller's (static, stack, heap). Each pointer is aligned as the type that it
+ * points to: table and stop by 2 bytes, handled by 4, written and unread by 8; tape and out need no alignment. The objects of one
  * call must not overlap. Calls on different tables may run at the same time; calls on one table may not.
  *
  * What a call changes. An accepted call changes the table, *written and the first *written bytes of out; later bytes of out
@@ -26,16 +32,26 @@
 #ifndef BOLTCLOVER_H
 #define BOLTCLOVER_H
 
-#include <stddef.h>
 #include <stdint.h>
+
+/* The library is built for little-endian targets alone. */
+#if defined(__BYTE_ORDER__) && defined(__ORDER_LITTLE_ENDIAN__)
+#if __BYTE_ORDER__ != __ORDER_LITTLE_ENDIAN__
+#error "Boltclover is for little-endian targets, and this one is not"
+#endif
+#elif !defined(_MSC_VER) && !defined(BOLTCLOVER_LITTLE_ENDIAN)
+#error "This compiler does not say the order of bytes: define BOLTCLOVER_LITTLE_ENDIAN if the target is little-endian; Boltclover is for no other"
+#endif
 
 #ifdef __cplusplus
 extern "C" {
 #endif
 
+typedef uint64_t boltclover_size; /* a length, room or count of bytes, on every target */
+
 #define BOLTCLOVER_TABLE_WORDS 2819 /* 256 slots of eleven words, then begin and two counts */
 #define BOLTCLOVER_COMMAND_ROOM 4096 /* bytes of out that conflict, virtual_conflict and expand want: 512 commands of 8 bytes */
-#define BOLTCLOVER_LISTING_ROOM(defects) ((size_t)16 * (defects)) /* bytes of out that list wants; 4096 is always enough */
+#define BOLTCLOVER_LISTING_ROOM(defects) ((boltclover_size)16 * (defects)) /* bytes of out that list wants; 4096 is always enough */
 #define BOLTCLOVER_RUN_ROOM 4102 /* bytes of out that run wants left before it handles a record */
 
 #define BOLTCLOVER_NO_NODE 65535u
@@ -80,24 +96,24 @@ uint16_t boltclover_sound(const uint16_t *table);
 /* Two nodes touch: node_1 by its defect touch_1 at vertex_1, node_2 by touch_2 at vertex_2. A defect that the table has not
    seen is loaded first. Commands for the dual half go to out. 0, or in this order 1, 9, 3, 4, 5, 6, 7, 8. */
 uint16_t boltclover_conflict(uint16_t *table, uint16_t node_1, uint16_t node_2, uint16_t touch_1, uint16_t touch_2,
-                             uint32_t vertex_1, uint32_t vertex_2, uint8_t *out, size_t room, size_t *written);
+                             uint32_t vertex_1, uint32_t vertex_2, uint8_t *out, boltclover_size room, boltclover_size *written);
 
 /* A node touches a virtual vertex. 0, or in this order 1, 9, 3, 4, 6, 7. */
 uint16_t boltclover_virtual_conflict(uint16_t *table, uint16_t node, uint16_t touch, uint32_t vertex, uint32_t virtual_vertex,
-                                     uint8_t *out, size_t room, size_t *written);
+                                     uint8_t *out, boltclover_size room, boltclover_size *written);
 
 /* A shrinking blossom is taken apart. 0, or in this order 1, 9, 11. */
-uint16_t boltclover_expand(uint16_t *table, uint16_t node, uint8_t *out, size_t room, size_t *written);
+uint16_t boltclover_expand(uint16_t *table, uint16_t node, uint8_t *out, boltclover_size room, boltclover_size *written);
 
 /* Lists every matched pair of defects, those inside blossoms too, as pair and virtual pair records. 0, or 1, 10. */
-uint16_t boltclover_list(const uint16_t *table, uint8_t *out, size_t room, size_t *written);
+uint16_t boltclover_list(const uint16_t *table, uint8_t *out, boltclover_size room, boltclover_size *written);
 
 /* Handles the requests of a tape, at most allowance of them. Each writes its records and an end record with 0 or its refusal;
    a refused request does not stop the run. Gives *stop, the requests handled, the bytes written, and the bytes left unread:
    the last *unread bytes of the tape. 0; or 1 on a table that is not sound, with *stop, *handled and *written 0 and *unread
    the whole length. */
-uint16_t boltclover_run(uint16_t *table, const uint8_t *tape, size_t length, uint8_t *out, size_t room, uint32_t allowance,
-                        uint16_t *stop, uint32_t *handled, size_t *written, size_t *unread);
+uint16_t boltclover_run(uint16_t *table, const uint8_t *tape, boltclover_size length, uint8_t *out, boltclover_size room, uint32_t allowance,
+                        uint16_t *stop, uint32_t *handled, boltclover_size *written, boltclover_size *unread);
 
 #ifdef __cplusplus
 }

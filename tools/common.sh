@@ -1,6 +1,6 @@
 # shellcheck shell=sh
-# What tools/compare, tools/sample, the scripts of bench/ and examples/build share. Each sets `script`, the name that a reader calls it by, reads
-# this file, and stands at the root of the repository when it calls what is below.
+# What tools/compare, tools/sample, tools/library, tools/try-library, the scripts of bench/ and the examples' scripts share. Each sets
+# `script`, the name that a reader calls it by, reads this file, and stands at the root of the repository when it calls what is below.
 
 # ---- what is said: on standard error, a sentence each
 

@@ -12,9 +12,9 @@ static unsigned narrow(const uint8_t *at) { return at[0] | at[1] << 8; }
 static unsigned long wide(const uint8_t *at) { return narrow(at) | (unsigned long)narrow(at + 2) << 16; }
 
 /* Says each record of the first `written` bytes in words. */
-static void say(const uint8_t *bytes, size_t written) {
+static void say(const uint8_t *bytes, boltclover_size written) {
     static const char *const speeds[] = {"stays", "grows", "shrinks"};
-    for (size_t at = 0; at < written; at += 2 + narrow(bytes + at)) {
+    for (boltclover_size at = 0; at < written; at += 2 + narrow(bytes + at)) {
         const uint8_t *field = bytes + at + 4;
         switch (narrow(bytes + at + 2)) {
         case 16: printf("  node %u %s\n", narrow(field), speeds[narrow(field + 2)]); break;
@@ -41,22 +41,22 @@ static size_t conflict_record(uint8_t *to, unsigned node_1, unsigned node_2, uns
 }
 
 int main(void) {
-    size_t written;
+    boltclover_size written;
 
     printf("make a table of 128 defect slots: %u\n", boltclover_make(table, 128));
 
     uint16_t answer = boltclover_conflict(table, 0, 1, 0, 1, 10, 11, out, sizeof out, &written);
-    printf("conflict of 0 and 1: %u, %zu bytes\n", answer, written);
+    printf("conflict of 0 and 1: %u, %zu bytes\n", answer, (size_t)written);
     say(out, written);
 
     answer = boltclover_list(table, out, sizeof out, &written);
-    printf("list: %u, %zu bytes\n", answer, written);
+    printf("list: %u, %zu bytes\n", answer, (size_t)written);
     say(out, written);
 
     answer = boltclover_conflict(table, 0, 0, 0, 0, 10, 11, out, sizeof out, &written);
-    printf("conflict of 0 with itself: %u, %zu bytes\n", answer, written);
+    printf("conflict of 0 with itself: %u, %zu bytes\n", answer, (size_t)written);
     answer = boltclover_conflict(table, 2, 3, 2, 3, 12, 13, out, 4095, &written);
-    printf("conflict with 4,095 bytes of room: %u, %zu bytes\n", answer, written);
+    printf("conflict with 4,095 bytes of room: %u, %zu bytes\n", answer, (size_t)written);
 
     /* A tape: 2 meets the pair 0, 1, then the far end of it, which makes a blossom; then the listing; then a cut record. */
     uint8_t tape[64];
@@ -67,9 +67,10 @@ int main(void) {
     length += narrow_to(tape + length, 18);
     uint16_t stop;
     uint32_t handled;
-    size_t unread;
+    boltclover_size unread;
     answer = boltclover_run(table, tape, length, out, sizeof out, 1000, &stop, &handled, &written, &unread);
-    printf("run of %zu bytes: %u, stop %u, %u handled, %zu bytes, %zu unread\n", length, answer, stop, (unsigned)handled, written, unread);
+    printf("run of %zu bytes: %u, stop %u, %u handled, %zu bytes, %zu unread\n", length, answer, stop, (unsigned)handled, (size_t)written,
+           (size_t)unread);
     say(out, written);
 
     printf("sound: %u\n", boltclover_sound(table));

@@ -1,6 +1,12 @@
 //! A safe wrapper of the static library. Each call takes what it changes by `&mut`, so that Rust rules out the overlaps that
-//! `include/boltclover.h` forbids. No dependency but `core`.
+//! `include/boltclover.h` forbids. No dependency but `core`; for every target that the library is built for.
 #![no_std]
+
+#[cfg(not(target_endian = "little"))]
+compile_error!("Boltclover is for little-endian targets");
+
+/// A length, room or count of bytes: 64 bits on every target, whatever `usize` has.
+type Size = u64;
 
 /// A node's number; `Node::NONE` names none. Not to be mixed up with a vertex's.
 #[derive(Clone, Copy, PartialEq, Eq, Debug)]
@@ -97,8 +103,8 @@ extern "C" {
         vertex_1: u32,
         vertex_2: u32,
         out: *mut u8,
-        room: usize,
-        written: *mut usize,
+        room: Size,
+        written: *mut Size,
     ) -> u16;
     fn boltclover_virtual_conflict(
         table: *mut u16,
@@ -107,22 +113,22 @@ extern "C" {
         vertex: u32,
         virtual_vertex: u32,
         out: *mut u8,
-        room: usize,
-        written: *mut usize,
+        room: Size,
+        written: *mut Size,
     ) -> u16;
-    fn boltclover_expand(table: *mut u16, node: u16, out: *mut u8, room: usize, written: *mut usize) -> u16;
-    fn boltclover_list(table: *const u16, out: *mut u8, room: usize, written: *mut usize) -> u16;
+    fn boltclover_expand(table: *mut u16, node: u16, out: *mut u8, room: Size, written: *mut Size) -> u16;
+    fn boltclover_list(table: *const u16, out: *mut u8, room: Size, written: *mut Size) -> u16;
     fn boltclover_run(
         table: *mut u16,
         tape: *const u8,
-        length: usize,
+        length: Size,
         out: *mut u8,
-        room: usize,
+        room: Size,
         allowance: u32,
         stop: *mut u16,
         handled: *mut u32,
-        written: *mut usize,
-        unread: *mut usize,
+        written: *mut Size,
+        unread: *mut Size,
     ) -> u16;
 }
 
@@ -182,11 +188,11 @@ impl Table {
                 c.vertex_1.0,
                 c.vertex_2.0,
                 out.as_mut_ptr(),
-                out.len(),
+                out.len() as Size,
                 &mut written,
             )
         };
-        told(number, &out[..written])
+        told(number, &out[..written as usize])
     }
 
     pub fn virtual_conflict<'out>(&mut self, c: VirtualConflict, out: &'out mut [u8]) -> Result<&'out [u8], Refusal> {
@@ -199,24 +205,24 @@ impl Table {
                 c.vertex.0,
                 c.virtual_vertex.0,
                 out.as_mut_ptr(),
-                out.len(),
+                out.len() as Size,
                 &mut written,
             )
         };
-        told(number, &out[..written])
+        told(number, &out[..written as usize])
     }
 
     pub fn expand<'out>(&mut self, node: Node, out: &'out mut [u8]) -> Result<&'out [u8], Refusal> {
         let mut written = 0;
-        let number = unsafe { boltclover_expand(self.words.as_mut_ptr(), node.0, out.as_mut_ptr(), out.len(), &mut written) };
-        told(number, &out[..written])
+        let number = unsafe { boltclover_expand(self.words.as_mut_ptr(), node.0, out.as_mut_ptr(), out.len() as Size, &mut written) };
+        told(number, &out[..written as usize])
     }
 
     /// The pairs, in the first bytes of `out`, which has at least 16 bytes for each present defect.
     pub fn list<'out>(&self, out: &'out mut [u8]) -> Result<&'out [u8], Refusal> {
         let mut written = 0;
-        let number = unsafe { boltclover_list(self.words.as_ptr(), out.as_mut_ptr(), out.len(), &mut written) };
-        told(number, &out[..written])
+        let number = unsafe { boltclover_list(self.words.as_ptr(), out.as_mut_ptr(), out.len() as Size, &mut written) };
+        told(number, &out[..written as usize])
     }
 
     /// Handles the requests of a tape, at most `allowance` of them. The answers are the first `written` bytes of `out`.
@@ -226,9 +232,9 @@ impl Table {
             boltclover_run(
                 self.words.as_mut_ptr(),
                 tape.as_ptr(),
-                tape.len(),
+                tape.len() as Size,
                 out.as_mut_ptr(),
-                out.len(),
+                out.len() as Size,
                 allowance,
                 &mut stop,
                 &mut handled,
@@ -242,6 +248,7 @@ impl Table {
             2 => Stop::OutputFull,
             _ => Stop::BadRecord,
         };
+        let (written, unread) = (written as usize, unread as usize);
         told(number, Run { stop, handled, written, rest: &tape[tape.len() - unread..] })
     }
 }

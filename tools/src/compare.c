@@ -139,7 +139,7 @@ static void measure(const View *t, const Request *r, Row row, const View *after)
 
 /* One request: the number against the second reading, a refusal's bytes and table against those before, an accepted one's
    against the original's. Says whether it was accepted; what was said stands in out. */
-static int try_request(const char *original, uint16_t *words, const Request *r, size_t room, uint8_t *out, size_t *written) {
+static int try_request(const char *original, uint16_t *words, const Request *r, size_t room, uint8_t *out, boltclover_size *written) {
     static View before, after;
     static uint16_t kept[WORDS];
     read_view(&before, words);
@@ -171,7 +171,7 @@ static void try_damage(const char *original, Shot *shot, const uint16_t *words) 
     static View t;
     uint16_t hurt[WORDS], kept[WORDS];
     uint8_t out[ROOM];
-    size_t written, unread;
+    boltclover_size written, unread;
     read_view(&t, words);
     memcpy(hurt, words, sizeof hurt);
     damage_table(shot, &t, hurt);
@@ -219,24 +219,6 @@ static void try_nests(Shot aside) {
 
 /* ---- runs */
 
-static void damage_tape(Dice *dice, Bytes *tape) {
-    if (tape->length < 8 || chance(dice, 1, 3)) return;
-    size_t at = 0, records = roll(dice, 40);
-    for (Request r; records > 0 && at + 8 < tape->length; records--) {
-        int size = read_request(&r, tape->bytes + at, tape->length - at);
-        if (!size || at + size >= tape->length) break;
-        at += size;
-    }
-    static const uint16_t kinds[] = {0, 6, 15, 16, 17, 18, 19, 20, 21, 22, 255, 256, 65535};
-    switch (roll(dice, 5)) {
-    case 0: tape->length -= 1 + roll(dice, 7); break;                                    /* cut short */
-    case 1: tape->bytes[at + 2] = kinds[roll(dice, 13)]; break;                           /* other kind */
-    case 2: tape->bytes[at + 3] = roll(dice, 256); break;                                 /* other kind, high byte */
-    case 3: tape->bytes[at] = roll(dice, 24); break;                                      /* other length */
-    default: tape->bytes[at + roll(dice, 8 < tape->length - at ? 8 : 1)] ^= 1u << roll(dice, 8); /* one bit anywhere */
-    }
-}
-
 /* A run against its sentences in 01, over the calls of single requests that are compared above. */
 static void try_run(Shot *shot, const Bytes *good) {
     static uint8_t out[RUN_BYTES], want[RUN_BYTES];
@@ -246,7 +228,7 @@ static void try_run(Shot *shot, const Bytes *good) {
     Dice *d = &shot->dice;
     tape.length = 0;
     append(&tape, good->bytes, good->length);
-    damage_tape(d, &tape);
+    damage_tape(d, tape.bytes, &tape.length);
     size_t room = chance(d, 1, 3) ? 4000 + roll(d, 3000) : roll(d, RUN_BYTES + 1);
     uint32_t allowance = chance(d, 1, 2) ? 100000 : roll(d, 300);
     boltclover_make(words, shot->begin);
@@ -258,7 +240,7 @@ static void try_run(Shot *shot, const Bytes *good) {
     int why;
     for (;; count++) {
         Request r;
-        size_t wrote = 0;
+        boltclover_size wrote = 0;
         if (at == tape.length) { why = 0; break; }
         if (count == allowance) { why = 1; break; }
         if (room - pos < 4102) { why = 2; break; }
@@ -273,7 +255,7 @@ static void try_run(Shot *shot, const Bytes *good) {
     }
     uint16_t stop;
     uint32_t handled;
-    size_t written, unread;
+    boltclover_size written, unread;
     int given = boltclover_run(words, tape.bytes, tape.length, out, room, allowance, &stop, &handled, &written, &unread);
     counts.runs++, counts.stops[why]++;
     if (given || stop != why || handled != count || written != pos || unread != tape.length - at || memcmp(out, want, sizeof out) || memcmp(words, want_words, sizeof words))
@@ -307,7 +289,7 @@ static void play(const char *original, uint64_t seed) {
     uint16_t words[WORDS];
     uint8_t out[ROOM], record[LONGEST_REQUEST];
     const uint8_t end[] = {4, 0, 19, 0, 0, 0};
-    size_t written;
+    boltclover_size written;
     every.length = answers.length = shot_tape.length = 0;
     memset(words, FILL, sizeof words);
     if (boltclover_make(words, shot.begin)) difference("making", shot_number, 0, NULL);

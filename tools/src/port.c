@@ -1,6 +1,6 @@
 #include "port.h"
 
-uint16_t call_port(uint16_t *words, const Request *r, uint8_t *out, size_t room, size_t *written) {
+uint16_t call_port(uint16_t *words, const Request *r, uint8_t *out, size_t room, boltclover_size *written) {
     switch (r->kind) {
     case CONFLICT: return boltclover_conflict(words, r->node_1, r->node_2, r->touch_1, r->touch_2, r->vertex_1, r->vertex_2, out, room, written);
     case VIRTUAL: return boltclover_virtual_conflict(words, r->node_1, r->touch_1, r->vertex_1, r->vertex_2, out, room, written);

@@ -5,6 +5,6 @@
 #include "../../include/boltclover.h"
 #include "view.h"
 
-uint16_t call_port(uint16_t *words, const Request *r, uint8_t *out, size_t room, size_t *written);
+uint16_t call_port(uint16_t *words, const Request *r, uint8_t *out, size_t room, boltclover_size *written);
 
 #endif

@@ -22,7 +22,8 @@ static void make_tape(Bytes *tape, Shot first) {
     static View t;
     uint16_t words[WORDS];
     uint8_t out[8192], record[LONGEST_REQUEST];
-    size_t written, answers = 0;
+    size_t answers = 0;
+    boltclover_size written;
     Shot shot = first;
     boltclover_make(words, shot.begin);
     for (uint32_t step = 1; tape->length < MOST && answers < MOST - 4096; step++) {

@@ -440,3 +440,21 @@ void damage_table(Shot *s, const View *t, uint16_t *words) {
         }
     }
 }
+
+void damage_tape(Dice *dice, uint8_t *tape, size_t *length) {
+    if (*length < 8 || chance(dice, 1, 3)) return;
+    size_t at = 0, records = roll(dice, 40);
+    for (Request r; records > 0 && at + 8 < *length; records--) {
+        int size = read_request(&r, tape + at, *length - at);
+        if (!size || at + size >= *length) break;
+        at += size;
+    }
+    static const uint16_t kinds[] = {0, 6, 15, 16, 17, 18, 19, 20, 21, 22, 255, 256, 65535};
+    switch (roll(dice, 5)) {
+    case 0: *length -= 1 + roll(dice, 7); break;                                    /* cut short */
+    case 1: tape[at + 2] = kinds[roll(dice, 13)]; break;                            /* other kind */
+    case 2: tape[at + 3] = roll(dice, 256); break;                                  /* other kind, high byte */
+    case 3: tape[at] = roll(dice, 24); break;                                       /* other length */
+    default: tape[at + roll(dice, 8 < *length - at ? 8 : 1)] ^= 1u << roll(dice, 8); /* one bit anywhere */
+    }
+}
