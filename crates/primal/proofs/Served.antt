@@ -21,7 +21,7 @@ use Rattle.rules.specs.Calls.{actOf, actBy, verdict, verdictNumber, answered}
 use Rattle.rules.specs.Run.{served}
 use Rattle.table.proofs.WordsOfSlots.{slots-length}
 use Rattle.theorems_soundness.proofs.Reflect.{test-true}
-use Rattle.theorems_kept.proofs.Kept.{served-keeps-sound}
+use Rattle.theorems_soundness.proofs.Kept.{served-keeps-sound}
 use Rattle.record.proofs.Written.{writeAll-append}
 use Rattle.rules.proofs.Runs.{world, run-skip}
 use Rattle.rules.specs.Sound.{sound}

@@ -73,7 +73,7 @@ pub fn expand(t: &mut Table, out: &mut [u8], request: Expansion) -> Answer
     if !sound::is_sound(t) {
         return Answer::Refused(Refusal::NotSound);
     }
-    request_blossom::expansion::expand(t, out, 0, request)
+    request_expansion::expand(t, out, 0, request)
 }
 
 // The listing. Done gives the bytes of its entries.

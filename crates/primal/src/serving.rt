@@ -40,7 +40,7 @@ fn serve_virtual_conflict(t: &mut Table, out: &mut [u8], pos: usize, c: VirtualC
 fn serve_expansion(t: &mut Table, out: &mut [u8], pos: usize, e: Expansion) -> usize
     ensures { λ r. ⌜ Serves (Q.Expansion e) pos (now (t .entry)) (now (out .entry)) r (now (t .exit)) (now (out .exit)) ⌝ }
 {
-    let answer = request_blossom::expansion::expand(t, out, pos, e);
+    let answer = request_expansion::expand(t, out, pos, e);
     end(out, pos, answer)
 }
 

@@ -1,8 +1,5 @@
-// Making a blossom; `expansion` takes one apart. Each walk is bounded, so it ends on any table.
-pub mod attaching;
-pub mod expansion;
+// Making a blossom. Each walk is bounded, so it ends on any table.
 pub mod list;
-pub mod opening;
 pub mod ringing;
 pub mod transfer;
 

@@ -16,10 +16,10 @@ use Rattle.rules.specs.Script.{acceptedInTurn}
 use Rattle.theorems_soundness.proofs.Reflect.{and↔, test-true, tests}
 use Rattle.outcome.specs.Handled.{laterVerdict}
 use Rattle.outcome.proofs.Verdicts.{sound-verdict}
-use Rattle.theorems_kept.specs.RuleFacts.{Whole}
-use Rattle.theorems_kept.proofs.Wholes.{from-whole}
-use Rattle.theorems_kept.proofs.Resetting.{fresh-whole}
-use Rattle.theorems_kept.proofs.Keeping.{answered-keeps}
+use Rattle.theorems_soundness.specs.RuleFacts.{Whole}
+use Rattle.theorems_soundness.proofs.Wholes.{from-whole}
+use Rattle.theorems_soundness.proofs.Resetting.{fresh-whole}
+use Rattle.theorems_soundness.proofs.Keeping.{answered-keeps}
 
 -- as `acceptedInTurn`, by the checks after the first
 unfoldable pub acceptedLater : List Request → Table → Bool

@@ -15,8 +15,8 @@ use Rattle.outcome.specs.Handled.{laterVerdict}
 use Rattle.theorems_examples.proofs.InTurn.{acceptedLater, played}
 use Rattle.theorems_requests.specs.Orders.{Ask, AllAsked, PairwiseApart}
 use Rattle.theorems_requests.proofs.Areas.{apart-by-test}
-use Rattle.theorems_kept.specs.RuleFacts.{Whole}
-use Rattle.theorems_kept.proofs.Wholes.{to-whole}
+use Rattle.theorems_soundness.specs.RuleFacts.{Whole}
+use Rattle.theorems_soundness.proofs.Wholes.{to-whole}
 
 -- trees 2, 0, 1 and 5, 3, 4; the blossom 128 of 8, 6, 7 as a − node below 10, with 9 below it
 preparing : List Request

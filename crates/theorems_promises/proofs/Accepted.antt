@@ -21,7 +21,7 @@ use Rattle.record.specs.Writing.{outOf, writeAll}
 use Rattle.rules.specs.Act.{World, worldOf, run}
 use Rattle.rules.specs.Sound.{sound}
 use Rattle.rules.specs.Calls.{actOf, verdict, answered}
-use Rattle.theorems_kept.proofs.Kept.{answered-keeps-sound}
+use Rattle.theorems_soundness.proofs.Kept.{answered-keeps-sound}
 use Rattle.outcome.specs.Handled.{Outcome}
 use Rattle.outcome.proofs.Verdicts.{unsound-verdict}
 use Rattle.outcome.specs.Call.{Call}

@@ -20,7 +20,7 @@ use Rattle.record.specs.Writing.{Out, outOf, writeAll, bytesOf}
 use Rattle.rules.specs.Act.{World, worldOf, run, skip}
 use Rattle.rules.specs.Calls.{actOf, verdict, answered}
 use Rattle.rules.specs.Run.{requestsOf}
-use Rattle.theorems_kept.proofs.Wholes.{to-whole}
+use Rattle.theorems_soundness.proofs.Wholes.{to-whole}
 use Rattle.theorems_requests.proofs.ListingRoom.{run-written}
 use Rattle.theorems_requests.proofs.AnsweredBytes.{answered-bytes}
 use Rattle.outcome.specs.Handled.{Outcome}

@@ -25,8 +25,8 @@ use Rattle.rules.specs.Act.{Act, World, worldOf, run}
 use Rattle.rules.specs.Sound.{sound}
 use Rattle.rules.specs.Calls.{actOf, verdict}
 use Rattle.rules.specs.Run.{began}
-use Rattle.theorems_kept.proofs.Resetting.{fresh-at}
-use Rattle.theorems_kept.proofs.Kept.{run-keeps-sound}
+use Rattle.theorems_soundness.proofs.Resetting.{fresh-at}
+use Rattle.theorems_soundness.proofs.Kept.{run-keeps-sound}
 use Rattle.theorems_soundness.proofs.SoundFacts.{sound→facts}
 use Rattle.outcome.specs.Handled.{Outcome}
 use Rattle.outcome.specs.Call.{Call}

@@ -23,9 +23,9 @@ use Rattle.theorems_soundness.specs.Facts.{Names}
 use Rattle.theorems_soundness.proofs.Reflect.{same-or-not}
 use Rattle.theorems_soundness.proofs.ReflectSlots.{inner-present}
 use Rattle.theorems_soundness.proofs.InsideLaws.{inside-present}
-use Rattle.theorems_kept.specs.RuleFacts.{Whole}
-use Rattle.theorems_kept.proofs.AcceptedRequests.{acceptable, acceptable-expansion}
-use Rattle.theorems_kept.proofs.Expanding.{top-held, bottom-held}
+use Rattle.theorems_soundness.specs.RuleFacts.{Whole}
+use Rattle.theorems_soundness.proofs.AcceptedRequests.{acceptable, acceptable-expansion}
+use Rattle.theorems_soundness.proofs.Expanding.{top-held, bottom-held}
 use Rattle.theorems_requests.proofs.Within.{Closed, Alike, Moved, alike-itself}
 use Rattle.theorems_requests.proofs.ConflictWithin.{conflict-acted, virtual-acts}
 use Rattle.theorems_requests.proofs.ExpansionWithin.{expansion-acted}

@@ -20,8 +20,8 @@ use Rattle.rules.specs.Matching.{temporaryMatch, temporaryMatchVirtual, augment
 use Rattle.rules.specs.Blossom.{lacksBlossomSlot}
 use Rattle.rules.specs.Conflict.{conflictLink, blossomInTree, treesMeet, rowOf, resolved, conflict, freed, virtualConflict}
 use Rattle.theorems_soundness.proofs.Reflect.{→and, test-case, test-true, test-false, not↔, ltb↔}
-use Rattle.theorems_kept.specs.RuleFacts.{Whole}
-use Rattle.theorems_kept.proofs.Loading.{load-does}
+use Rattle.theorems_soundness.specs.RuleFacts.{Whole}
+use Rattle.theorems_soundness.proofs.Loading.{load-does}
 use Rattle.theorems_promises.proofs.Lasting.{Has, Lasts, ActLasts, put-lasts, same-lasts, choose-lasts, skip-lasts, change-lasts, then-lasts, look-lasts, read-lasts, either-lasts, match-lasts, match-virtual-lasts, augment-lasts, grow-lasts, hang-lasts}
 use Rattle.theorems_promises.proofs.LastingBlossom.{create-lasts}
 

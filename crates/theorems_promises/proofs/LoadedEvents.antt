@@ -21,7 +21,7 @@ use Rattle.rules.proofs.RunCounts.{records-between}
 use Rattle.rules.proofs.TapeRequests.{as-many}
 use Rattle.theorems_requests.specs.Named.{namedIn, times, isPresentDefect, AllMatched}
 use Rattle.outcome.specs.Tape.{Tape}
-use Rattle.theorems_kept.proofs.Wholes.{to-whole}
+use Rattle.theorems_soundness.proofs.Wholes.{to-whole}
 use Rattle.theorems_promises.specs.Loaded.{Events, noEvents, loadedAfter, servedAll, loadedBy}
 use Rattle.theorems_promises.proofs.Presence.{answered-present, served-present, reset-none}
 use Rattle.theorems_promises.proofs.ServedRecords.{all-present, run-serves, run-present}

@@ -18,8 +18,8 @@ use Rattle.rules.specs.Sound.{sound}
 use Rattle.rules.specs.Run.{Stop, tapeEmpty, allowanceUsed, outputFull, badRecord, Progress, Ended, room, Ran, ran, runFrom, began, runTape, Between, requestsOf}
 use Rattle.rules.proofs.RunCounts.{run-counts}
 use Rattle.theorems_soundness.proofs.Reflect.{test-true}
-use Rattle.theorems_kept.proofs.Wholes.{to-whole}
-use Rattle.theorems_kept.proofs.Kept.{run-keeps-sound}
+use Rattle.theorems_soundness.proofs.Wholes.{to-whole}
+use Rattle.theorems_soundness.proofs.Kept.{run-keeps-sound}
 use Rattle.theorems_requests.proofs.ListingRoom.{run-written}
 use Rattle.theorems_requests.proofs.AnsweredBytes.{bytes-joined}
 use Rattle.theorems_promises.specs.InARow.{inARow}

@@ -27,9 +27,9 @@ use Rattle.rules.specs.Run.{room, served}
 use Rattle.theorems_requests.specs.Named.{isPresentDefect}
 use Rattle.theorems_soundness.specs.Chain.{_∈_}
 use Rattle.theorems_soundness.proofs.Reflect.{test-true, ltb↔, isIn↔}
-use Rattle.theorems_kept.specs.RuleFacts.{Whole}
-use Rattle.theorems_kept.proofs.Resetting.{fresh-at}
-use Rattle.theorems_kept.proofs.AcceptedRequests.{acceptable-expansion}
+use Rattle.theorems_soundness.specs.RuleFacts.{Whole}
+use Rattle.theorems_soundness.proofs.Resetting.{fresh-at}
+use Rattle.theorems_soundness.proofs.AcceptedRequests.{acceptable-expansion}
 use Rattle.theorems_requests.proofs.Within.{Moved}
 use Rattle.theorems_promises.specs.Loaded.{Events, namedForLoading, loadedAfter}
 use Rattle.theorems_promises.proofs.Lasting.{Has}

@@ -17,8 +17,8 @@ use Rattle.rules.specs.Calls.{verdict, verdictNumber, answered}
 use Rattle.rules.specs.Run.{room, served, runFrom, began, requestsOf}
 use Rattle.rules.proofs.RunInduction.{OfRuns, AtAStop, OverARecord, run-induction}
 use Rattle.rules.proofs.TapeRequests.{first-request}
-use Rattle.theorems_kept.specs.RuleFacts.{Whole}
-use Rattle.theorems_kept.proofs.Serving.{served-whole}
+use Rattle.theorems_soundness.specs.RuleFacts.{Whole}
+use Rattle.theorems_soundness.proofs.Serving.{served-whole}
 use Rattle.theorems_requests.proofs.AnsweredBytes.{bytes-joined, ended-fits}
 use Rattle.theorems_requests.proofs.CommandsFit.{verdict-in-a-run, served-written}
 use Rattle.theorems_promises.specs.InARow.{answeredAndEnded, inARow}

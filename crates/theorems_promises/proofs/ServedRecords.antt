@@ -8,8 +8,8 @@ use Rattle.rules.specs.Run.{Progress, room, served, runFrom, requestsOf}
 use Rattle.rules.proofs.RunInduction.{OfRuns, AtAStop, run-induction}
 use Rattle.rules.proofs.TapeRequests.{first-request}
 use Rattle.theorems_requests.specs.Named.{isPresentDefect}
-use Rattle.theorems_kept.specs.RuleFacts.{Whole}
-use Rattle.theorems_kept.proofs.Serving.{served-whole}
+use Rattle.theorems_soundness.specs.RuleFacts.{Whole}
+use Rattle.theorems_soundness.proofs.Serving.{served-whole}
 use Rattle.theorems_promises.specs.Loaded.{Events, loadedAfter, servedAll, loadedBy}
 use Rattle.theorems_promises.proofs.Presence.{served-present}
 

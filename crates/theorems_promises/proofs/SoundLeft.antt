@@ -22,7 +22,7 @@ use Rattle.rules.specs.Act.{Act, World, worldOf, run}
 use Rattle.rules.specs.Sound.{sound}
 use Rattle.rules.specs.Calls.{list, actOf, verdict}
 use Rattle.rules.specs.Run.{began}
-use Rattle.theorems_kept.proofs.Kept.{made-sound, run-keeps-sound}
+use Rattle.theorems_soundness.proofs.Kept.{made-sound, run-keeps-sound}
 use Rattle.theorems_soundness.proofs.Reflect.{and→}
 use Rattle.outcome.specs.Handled.{Outcome}
 use Rattle.outcome.specs.Call.{Call}

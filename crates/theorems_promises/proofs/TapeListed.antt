@@ -20,8 +20,8 @@ use Rattle.theorems_requests.specs.Named.{namedIn, times, isPresentDefect, AllM
 use Rattle.theorems_requests.proofs.EachEventOnce.{every-event-once}
 use Rattle.outcome.specs.Tape.{HandsOut, Tape}
 use Rattle.outcome.proofs.RunOutcomes.{sound-outcome}
-use Rattle.theorems_kept.proofs.Wholes.{to-whole}
-use Rattle.theorems_kept.proofs.Kept.{made-sound, run-keeps-sound}
+use Rattle.theorems_soundness.proofs.Wholes.{to-whole}
+use Rattle.theorems_soundness.proofs.Kept.{made-sound, run-keeps-sound}
 use Rattle.theorems_promises.specs.Loaded.{noEvents, servedAll, loadedBy}
 use Rattle.theorems_promises.proofs.Presence.{fresh-none}
 use Rattle.theorems_promises.proofs.ServedRecords.{loaded-from, all-present, run-serves}

@@ -11,7 +11,7 @@ use Rattle.table.proofs.WordsOfSlots.{slots-length}
 use Rattle.rules.specs.Act.{World, worldOf}
 use Rattle.rules.specs.Sound.{sound}
 use Rattle.rules.specs.Run.{Ran, unsound, ran, Ended, began, runFrom, runTape}
-use Rattle.theorems_kept.proofs.Kept.{run-keeps-sound}
+use Rattle.theorems_soundness.proofs.Kept.{run-keeps-sound}
 use Rattle.theorems_promises.specs.Lent.{Lent}
 use Rattle.theorems_promises.proofs.Determining.{same-words}
 use Rattle.tape.specs.declared.turn.Turn.{Turn}

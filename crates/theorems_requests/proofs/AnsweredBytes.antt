@@ -24,7 +24,7 @@ use Rattle.rules.specs.Calls.{list, actBy, verdict, answered}
 use Rattle.rules.specs.Run.{room}
 use Rattle.rules.specs.Commands.{givesCommands}
 use Rattle.rules.proofs.DefectCounts.{defects-most}
-use Rattle.theorems_kept.proofs.AcceptedRequests.{all-passed, not-no}
+use Rattle.theorems_soundness.proofs.AcceptedRequests.{all-passed, not-no}
 use Rattle.theorems_requests.proofs.EachEventOnce.{listing-fits}
 use Rattle.theorems_requests.proofs.AnsweredCommands.{answered-size, answered-fits}
 

@@ -16,14 +16,14 @@ use Rattle.rules.specs.Act.{skip}
 use Rattle.rules.specs.Sound.{sound}
 use Rattle.rules.specs.Refusals.{conflictChecks, virtualChecks, expansionChecks}
 use Rattle.rules.specs.Calls.{actOf, actBy, verdict, answered}
-use Rattle.theorems_kept.specs.RuleFacts.{Whole}
-use Rattle.theorems_kept.proofs.Wholes.{to-whole}
+use Rattle.theorems_soundness.specs.RuleFacts.{Whole}
+use Rattle.theorems_soundness.proofs.Wholes.{to-whole}
 use Rattle.theorems_requests.proofs.ExpansionCommands.{expansion-commands}
 use Rattle.rules.specs.Commands.{givesCommands, AllCommands}
 use Rattle.theorems_requests.proofs.CommandRecords.{commands-size}
 use Rattle.theorems_requests.proofs.CommandsAlone.{conflict-only, virtual-only, expansion-only}
 use Rattle.theorems_requests.proofs.RequestCommands.{conflict-most, virtual-most}
-use Rattle.theorems_kept.proofs.AcceptedRequests.{all-passed, not-no}
+use Rattle.theorems_soundness.proofs.AcceptedRequests.{all-passed, not-no}
 
 -- accepted: the table is sound, and there are 4,096 bytes
 accepted-so : (r : Request) → T (givesCommands r) → (t : Table) (room : ℕ) → verdict r t room ≡ W.Accepted → T (sound t) × (4096 ≤ room)

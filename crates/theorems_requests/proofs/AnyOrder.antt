@@ -10,9 +10,9 @@ use Rattle.refusal.specs.declared.Verdict.the-variants as W
 use Rattle.rules.specs.Sound.{sound}
 use Rattle.rules.specs.Calls.{actOf, verdict}
 use Rattle.rules.specs.Concerns.{concerns, isMaking}
-use Rattle.theorems_kept.specs.RuleFacts.{Whole}
-use Rattle.theorems_kept.proofs.Wholes.{to-whole}
-use Rattle.theorems_kept.proofs.Keeping.{act-keeps}
+use Rattle.theorems_soundness.specs.RuleFacts.{Whole}
+use Rattle.theorems_soundness.proofs.Wholes.{to-whole}
+use Rattle.theorems_soundness.proofs.Keeping.{act-keeps}
 use Rattle.rules.specs.Commands.{givesCommands}
 use Rattle.theorems_requests.specs.Orders.{Asked, ApartIn, Ask, AllAsked, PairwiseApart, doneInOrder, AcceptedInOrder, givenInOrder, givenFirst, Reordered}
 use Rattle.theorems_requests.proofs.Areas.{apart-back}

@@ -32,8 +32,8 @@ use Rattle.theorems_soundness.proofs.Past.{outer-below}
 use Rattle.theorems_soundness.proofs.KindLaws.{present-case}
 use Rattle.theorems_soundness.proofs.RingLaws.{inner-parent-present, inner-next}
 use Rattle.theorems_soundness.proofs.InsideLaws.{inside-ring, inside-join, inside-ring-node, outer-blossom-outer, outer-blossom-holds, outer-blossom-is}
-use Rattle.theorems_kept.specs.RuleFacts.{Whole}
-use Rattle.theorems_kept.proofs.Loading.{unloaded→}
+use Rattle.theorems_soundness.specs.RuleFacts.{Whole}
+use Rattle.theorems_soundness.proofs.Loading.{unloaded→}
 use Rattle.theorems_requests.proofs.Within.{In, Closed}
 use Rattle.theorems_requests.proofs.ConcernedNodes.{seen-loaded, concerned→, concerned-itself, concerned-held, concerned-outer, Held}
 use Rattle.theorems_requests.proofs.NamedNodes.{named-outer}

@@ -19,14 +19,14 @@ use Rattle.theorems_soundness.specs.Chain.{Chain}
 use Rattle.rules.specs.Matching.{temporaryMatch, augmentSubtree, augmentWithin, augmentWholeTree}
 use Rattle.theorems_soundness.proofs.Reflect.{same-or-not}
 use Rattle.theorems_soundness.proofs.Past.{outer-below}
-use Rattle.theorems_kept.specs.RuleFacts.{Whole, Below}
-use Rattle.theorems_kept.proofs.WaysUp.{upward-chain, upward-short}
-use Rattle.theorems_kept.proofs.Frames.{some-outer}
-use Rattle.theorems_kept.proofs.Below.{top-not-below, not-below-self, tied-most}
-use Rattle.theorems_kept.proofs.Cleared.{Task}
-use Rattle.theorems_kept.proofs.Trimming.{Aside, Trimmed, subtree-rule, trimmed, trimmed-way}
-use Rattle.theorems_kept.proofs.Augmented.{Augmented, Stem, stem, a-has-child}
-use Rattle.theorems_kept.proofs.WholeTrees.{augment-top, augment-more, two-steps, augments}
+use Rattle.theorems_soundness.specs.RuleFacts.{Whole, Below}
+use Rattle.theorems_soundness.proofs.WaysUp.{upward-chain, upward-short}
+use Rattle.theorems_soundness.proofs.Frames.{some-outer}
+use Rattle.theorems_soundness.proofs.Below.{top-not-below, not-below-self, tied-most}
+use Rattle.theorems_soundness.proofs.Cleared.{Task}
+use Rattle.theorems_soundness.proofs.Trimming.{Aside, Trimmed, subtree-rule, trimmed, trimmed-way}
+use Rattle.theorems_soundness.proofs.Augmented.{Augmented, Stem, stem, a-has-child}
+use Rattle.theorems_soundness.proofs.WholeTrees.{augment-top, augment-more, two-steps, augments}
 use Rattle.theorems_requests.proofs.MinusNodes.{shrinks, minuses, minuses-fewer}
 use Rattle.theorems_requests.proofs.SubtreeCommands.{commands, then-commands, match-commands, match-fewer, siblings-pay, some-commands}
 

@@ -28,7 +28,7 @@ use Rattle.rules.specs.Conflict.{conflict, virtualConflict}
 use Rattle.rules.specs.Sound.{sound}
 use Rattle.rules.specs.Calls.{verdict, verdictNumber, answered}
 use Rattle.rules.specs.Run.{room, served}
-use Rattle.theorems_kept.proofs.Wholes.{to-whole}
+use Rattle.theorems_soundness.proofs.Wholes.{to-whole}
 use Rattle.theorems_requests.proofs.CommandBytes.{written-all, commands-fit}
 use Rattle.theorems_requests.proofs.RequestCommands.{conflict-most, virtual-most}
 use Rattle.rules.specs.Commands.{givesCommands, AllCommands}

@@ -20,10 +20,10 @@ use Rattle.theorems_soundness.proofs.Reflect.{and→, →and, or→, →or, eq�
 use Rattle.theorems_soundness.proofs.ReflectSlots.{outer-present, outer-not-inner}
 use Rattle.theorems_soundness.proofs.KindLaws.{kind-place}
 use Rattle.theorems_soundness.proofs.ChildLaws.{above-outer, outer-some, first-child, next-child, has-child}
-use Rattle.theorems_kept.specs.RuleFacts.{Whole}
-use Rattle.theorems_kept.proofs.WaysUp.{sameTree↔}
-use Rattle.theorems_kept.proofs.Loading.{unloaded→}
-use Rattle.theorems_kept.proofs.Trimming.{root-up}
+use Rattle.theorems_soundness.specs.RuleFacts.{Whole}
+use Rattle.theorems_soundness.proofs.WaysUp.{sameTree↔}
+use Rattle.theorems_soundness.proofs.Loading.{unloaded→}
+use Rattle.theorems_soundness.proofs.Trimming.{root-up}
 
 -- ---- what the checks see
 

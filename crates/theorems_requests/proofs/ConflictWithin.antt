@@ -23,8 +23,8 @@ use Rattle.rules.specs.Blossom.{createBlossom}
 use Rattle.rules.specs.Conflict.{conflictLink, blossomInTree, treesMeet, rowOf, resolved, conflict, freed, virtualConflict}
 use Rattle.rules.specs.Refusals.{makesBlossom}
 use Rattle.theorems_soundness.proofs.Reflect.{→and, test-case, test-true, test-false, not↔}
-use Rattle.theorems_kept.specs.RuleFacts.{Whole}
-use Rattle.theorems_kept.proofs.Loading.{load-does}
+use Rattle.theorems_soundness.specs.RuleFacts.{Whole}
+use Rattle.theorems_soundness.proofs.Loading.{load-does}
 use Rattle.theorems_requests.proofs.Within.{Alike, Moves, Acted, Acts, moved-none, put-moves, choose-moves, skip-acts, change-acts, then-acts, acted-then, acted-choose, look-acts}
 use Rattle.theorems_requests.proofs.ReadingWithin.{unloaded-alike, same-tree-alike, meeting-alike, meeting-in}
 use Rattle.theorems_requests.proofs.MatchingWithin.{match-acts, match-virtual-acts, augment-acts, grow-acts, hang-acts}

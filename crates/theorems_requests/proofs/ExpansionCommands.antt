@@ -23,13 +23,13 @@ use Rattle.rules.specs.Expansion.{speedBy, attach, ringOpened, expandBlossom, e
 use Rattle.rules.specs.Calls.{verdict}
 use Rattle.theorems_soundness.proofs.Pigeonhole.{pigeonhole}
 use Rattle.theorems_soundness.proofs.Past.{outer-below}
-use Rattle.theorems_kept.specs.RuleFacts.{Whole}
-use Rattle.theorems_kept.proofs.RingLoops.{twoByTwo, hungDown, hungUp, not-odd, half-less}
-use Rattle.theorems_kept.proofs.RingCut.{CutRing}
-use Rattle.theorems_kept.proofs.RingTaken.{even-after}
-use Rattle.theorems_kept.proofs.RingOpening.{opened-even, opened-odd, parity}
-use Rattle.theorems_kept.proofs.Expanding.{blossom-cut}
-use Rattle.theorems_kept.proofs.AcceptedRequests.{acceptable-expansion}
+use Rattle.theorems_soundness.specs.RuleFacts.{Whole}
+use Rattle.theorems_soundness.proofs.RingLoops.{twoByTwo, hungDown, hungUp, not-odd, half-less}
+use Rattle.theorems_soundness.proofs.RingCut.{CutRing}
+use Rattle.theorems_soundness.proofs.RingTaken.{even-after}
+use Rattle.theorems_soundness.proofs.RingOpening.{opened-even, opened-odd, parity}
+use Rattle.theorems_soundness.proofs.Expanding.{blossom-cut}
+use Rattle.theorems_soundness.proofs.AcceptedRequests.{acceptable-expansion}
 
 -- each node Stay
 abbrev pub allStay : List ℕ → List Record

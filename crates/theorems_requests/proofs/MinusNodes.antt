@@ -21,9 +21,9 @@ use Rattle.theorems_soundness.proofs.Members.{in-append→, →nodup-append}
 use Rattle.theorems_soundness.proofs.Pigeonhole.{pigeonhole}
 use Rattle.theorems_soundness.proofs.Past.{outer-below}
 use Rattle.theorems_soundness.proofs.ChildLaws.{first-child, child-of-shrink, shrink-is-minus}
-use Rattle.theorems_kept.specs.RuleFacts.{Whole}
-use Rattle.theorems_kept.proofs.WaysUp.{root-parentless, root-outer}
-use Rattle.theorems_kept.proofs.Frames.{some-outer}
+use Rattle.theorems_soundness.specs.RuleFacts.{Whole}
+use Rattle.theorems_soundness.proofs.WaysUp.{root-parentless, root-outer}
+use Rattle.theorems_soundness.proofs.Frames.{some-outer}
 
 abbrev pub shrinks : Table → ℕ → Bool
 shrinks t n = isShrink (at t n .state)

@@ -17,7 +17,7 @@ use Rattle.rules.specs.Trees.{seen}
 use Rattle.theorems_soundness.specs.Chain.{_∈_}
 use Rattle.rules.specs.Calls.{verdict}
 use Rattle.rules.specs.Concerns.{named}
-use Rattle.theorems_kept.proofs.AcceptedRequests.{acceptable, acceptable-virtual, acceptable-expansion}
+use Rattle.theorems_soundness.proofs.AcceptedRequests.{acceptable, acceptable-virtual, acceptable-expansion}
 use Rattle.theorems_requests.proofs.ConcernedNodes.{seen-outer}
 
 module _ (t : Table) (room : ℕ) where

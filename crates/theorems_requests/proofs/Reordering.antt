@@ -8,8 +8,8 @@ use Rattle.record.specs.declared.request.Request.{Request}
 use Rattle.record.specs.declared.answer.Record.{Record}
 use Rattle.rules.specs.Act.{Did}
 use Rattle.rules.specs.Calls.{actOf, verdict, answered}
-use Rattle.theorems_kept.specs.RuleFacts.{Whole}
-use Rattle.theorems_kept.proofs.Keeping.{act-keeps}
+use Rattle.theorems_soundness.specs.RuleFacts.{Whole}
+use Rattle.theorems_soundness.proofs.Keeping.{act-keeps}
 use Rattle.theorems_requests.specs.Orders.{Asked, ApartIn, Ask, AllAsked, ApartFromAll, PairwiseApart, doneInOrder, AcceptedInOrder, Given, givenOn, givenInOrder, givenFirst, Reordered, as-it-is, neighbours, further-on, and-then}
 use Rattle.theorems_requests.proofs.Areas.{apart-back}
 use Rattle.theorems_requests.proofs.TwoRequests.{accepted-after, same-table, same-commands}

@@ -12,10 +12,10 @@ use Rattle.rules.specs.Trees.{loaded, seen}
 use Rattle.rules.specs.Matching.{temporaryMatchVirtual}
 use Rattle.rules.specs.Conflict.{conflictLink, resolved, conflict, freed, virtualConflict}
 use Rattle.rules.specs.Calls.{verdict}
-use Rattle.theorems_kept.specs.RuleFacts.{Whole}
-use Rattle.theorems_kept.proofs.AcceptedRequests.{acceptable, acceptable-virtual}
-use Rattle.theorems_kept.proofs.Accepting.{seen-same}
-use Rattle.theorems_kept.proofs.Loading.{load-does}
+use Rattle.theorems_soundness.specs.RuleFacts.{Whole}
+use Rattle.theorems_soundness.proofs.AcceptedRequests.{acceptable, acceptable-virtual}
+use Rattle.theorems_soundness.proofs.Accepting.{seen-same}
+use Rattle.theorems_soundness.proofs.Loading.{load-does}
 use Rattle.theorems_requests.proofs.SubtreeCommands.{commands}
 use Rattle.theorems_requests.proofs.RowCommands.{resolved-commands, freed-commands}
 

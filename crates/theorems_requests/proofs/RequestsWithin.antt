@@ -32,8 +32,8 @@ use Rattle.theorems_requests.proofs.Within.{Alike, Acted}
 use Rattle.theorems_requests.proofs.ReadingWithin.{seen-alike, defect-inside-alike, same-tree-alike}
 use Rattle.theorems_requests.proofs.ConflictWithin.{conflict-acted, virtual-acts}
 use Rattle.theorems_requests.proofs.ExpansionWithin.{expansion-acted}
-use Rattle.theorems_kept.specs.RuleFacts.{Whole}
-use Rattle.theorems_kept.proofs.AcceptedRequests.{acceptable, acceptable-virtual, acceptable-expansion}
+use Rattle.theorems_soundness.specs.RuleFacts.{Whole}
+use Rattle.theorems_soundness.proofs.AcceptedRequests.{acceptable, acceptable-virtual, acceptable-expansion}
 use Rattle.rules.specs.Commands.{givesCommands}
 use Rattle.theorems_requests.proofs.Areas.{InArea, fresh, named-concerned, named-in, inside-in}
 

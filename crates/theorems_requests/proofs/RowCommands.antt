@@ -19,15 +19,15 @@ use Rattle.rules.specs.Matching.{temporaryMatch, temporaryMatchVirtual, augment
 use Rattle.rules.specs.Blossom.{lacksBlossomSlot, createBlossom}
 use Rattle.rules.specs.Conflict.{growTree, hangPair, blossomInTree, treesMeet, rowOf, resolved, freed}
 use Rattle.theorems_soundness.proofs.Reflect.{tests, test-case, test-true, test-false, not↔}
-use Rattle.theorems_kept.specs.RuleFacts.{Whole}
-use Rattle.theorems_kept.proofs.WaysUp.{sameTree↔}
-use Rattle.theorems_kept.proofs.Frames.{some-outer}
-use Rattle.theorems_kept.proofs.Cleared.{counts-then}
-use Rattle.theorems_kept.proofs.Trimming.{Aside, counts-back}
-use Rattle.theorems_kept.proofs.Augmented.{Augmented}
-use Rattle.theorems_kept.proofs.WholeTrees.{augment-does, nothing-aside}
-use Rattle.theorems_kept.proofs.Rows.{agree-but, inTreeOf, tree-closed}
-use Rattle.theorems_kept.proofs.Resolving.{Spot, free-spot, virtual-spot, paired-spot, tree-spot, spot}
+use Rattle.theorems_soundness.specs.RuleFacts.{Whole}
+use Rattle.theorems_soundness.proofs.WaysUp.{sameTree↔}
+use Rattle.theorems_soundness.proofs.Frames.{some-outer}
+use Rattle.theorems_soundness.proofs.Cleared.{counts-then}
+use Rattle.theorems_soundness.proofs.Trimming.{Aside, counts-back}
+use Rattle.theorems_soundness.proofs.Augmented.{Augmented}
+use Rattle.theorems_soundness.proofs.WholeTrees.{augment-does, nothing-aside}
+use Rattle.theorems_soundness.proofs.Rows.{agree-but, inTreeOf, tree-closed}
+use Rattle.theorems_soundness.proofs.Resolving.{Spot, free-spot, virtual-spot, paired-spot, tree-spot, spot}
 use Rattle.theorems_requests.proofs.MinusNodes.{minuses, few-minuses}
 use Rattle.theorems_requests.proofs.SubtreeCommands.{commands, then-commands, match-commands}
 use Rattle.theorems_requests.proofs.AugmentCommands.{tree-pays}

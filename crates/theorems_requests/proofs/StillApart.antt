@@ -22,9 +22,9 @@ use Rattle.rules.specs.Concerns.{named, concernedAt, concerns, isMaking}
 use Rattle.theorems_soundness.proofs.Reflect.{and→, same-or-not}
 use Rattle.theorems_soundness.proofs.Chains.{chain-all}
 use Rattle.theorems_soundness.proofs.ChildLaws.{above-outer}
-use Rattle.theorems_kept.specs.RuleFacts.{Whole}
-use Rattle.theorems_kept.proofs.WaysUp.{upward-top, root-is-end}
-use Rattle.theorems_kept.proofs.Trimming.{root-up}
+use Rattle.theorems_soundness.specs.RuleFacts.{Whole}
+use Rattle.theorems_soundness.proofs.WaysUp.{upward-top, root-is-end}
+use Rattle.theorems_soundness.proofs.Trimming.{root-up}
 use Rattle.theorems_requests.proofs.Within.{Closed, Alike}
 use Rattle.theorems_requests.proofs.ReadingWithin.{seen-alike, root-alike, root-in, same-tree-alike}
 use Rattle.theorems_requests.proofs.ConcernedNodes.{seen-loaded, seen-in-tree}

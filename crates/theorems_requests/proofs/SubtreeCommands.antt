@@ -18,13 +18,13 @@ use Rattle.rules.specs.Matching.{temporaryMatch, matchSiblings}
 use Rattle.theorems_soundness.proofs.Reflect.{same-or-not}
 use Rattle.theorems_soundness.proofs.ReflectSlots.{shrink↔}
 use Rattle.theorems_soundness.proofs.Past.{outer-below}
-use Rattle.theorems_kept.proofs.Frames.{some-outer}
-use Rattle.theorems_kept.proofs.Matches.{matched-table}
-use Rattle.theorems_kept.proofs.Below.{below-child, tied}
-use Rattle.theorems_kept.proofs.Splitting.{Branch, branch, split, branch-below}
-use Rattle.theorems_kept.proofs.Cleared.{Task, Cleared}
-use Rattle.theorems_kept.proofs.Clearing.{lower-task, child₁, fewer₁, rest-task, child₃, fewer₃}
-use Rattle.theorems_kept.proofs.Subtrees.{siblings-none, siblings-some, siblings-clear}
+use Rattle.theorems_soundness.proofs.Frames.{some-outer}
+use Rattle.theorems_soundness.proofs.Matches.{matched-table}
+use Rattle.theorems_soundness.proofs.Below.{below-child, tied}
+use Rattle.theorems_soundness.proofs.Splitting.{Branch, branch, split, branch-below}
+use Rattle.theorems_soundness.proofs.Cleared.{Task, Cleared}
+use Rattle.theorems_soundness.proofs.Clearing.{lower-task, child₁, fewer₁, rest-task, child₃, fewer₃}
+use Rattle.theorems_soundness.proofs.Subtrees.{siblings-none, siblings-some, siblings-clear}
 use Rattle.theorems_requests.proofs.MinusNodes.{shrinks, minuses, minuses-fewer, minuses-less}
 
 -- how many records an act says

@@ -11,8 +11,8 @@ use Rattle.refusal.specs.declared.Verdict.the-variants as W
 use Rattle.record.specs.declared.request.Request.{Request}
 use Rattle.rules.specs.Calls.{actOf, verdict}
 use Rattle.rules.specs.Concerns.{isMaking}
-use Rattle.theorems_kept.specs.RuleFacts.{Whole}
-use Rattle.theorems_kept.proofs.Wholes.{from-whole}
+use Rattle.theorems_soundness.specs.RuleFacts.{Whole}
+use Rattle.theorems_soundness.proofs.Wholes.{from-whole}
 use Rattle.theorems_requests.proofs.Within.{Alike, Moved, Acted, alike-itself}
 use Rattle.theorems_requests.specs.Orders.{Asked, ApartIn}
 use Rattle.theorems_requests.proofs.Areas.{InArea, in-area-or-not, area-closed, apart-back, areas-apart}

@@ -2,3 +2,5 @@ pub mod Chain
 pub mod FactsOfNodes
 pub mod FactsOfBlossoms
 pub mod Facts
+pub mod RuleFacts
+pub mod WithBudgets

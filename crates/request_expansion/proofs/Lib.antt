@@ -1,0 +1,3 @@
+pub mod AttachingSteps
+pub mod OpeningSteps
+pub mod ExpansionSteps

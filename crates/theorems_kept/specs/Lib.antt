@@ -1,2 +1,0 @@
-pub mod RuleFacts
-pub mod WithBudgets

@@ -1,2 +1,0 @@
-// A sound table is sound after every call: proofs/Kept and proofs/KeptByRules; budgets of 256 suffice: proofs/BudgetsSuffice.
-// There is no code here.
