@@ -130,6 +130,7 @@ module _ (t : Table) (o : Out) where
       let q′ = rw (fewer k, a, e) at q in
       q′ ∙ rw (p′, ne-eqb n touched d, writeAll-append)
 
+-- what a walk has still left is at most what its call was given, and falls
 pub ring-falls : (l s n : ℕ) → 2 * l ≡ n → s ≤ l → (s ≡ 0 → ⊥) → 2 * (s - 1) < n
 ring-falls l zero n e p h = absurd (h refl)
 ring-falls l (suc s) n e p h = omega arith

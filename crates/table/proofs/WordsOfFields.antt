@@ -9,7 +9,7 @@ use lib.Seq.{getD-set-same, getD-set-other}
 use Rattle.slot.specs.Number.{vertexFrom}
 use Rattle.slot.specs.State.{stateOf}
 use Rattle.slot.specs.Slot.{Slot, emptySlot}
-use Rattle.table.specs.Table.{Table, at, put}
+use Rattle.table.specs.Table.{at, put}
 use Rattle.table.specs.Words.{tableOf, slotFrom, linkFrom}
 use Rattle.table.specs.Fields.{parentReplaced, firstChildReplaced, siblingReplaced}
 use Rattle.table.proofs.WordsOfSlots.{slot-cong, slots-length, at-words, tables-agree}

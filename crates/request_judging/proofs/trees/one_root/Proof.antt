@@ -1,5 +1,4 @@
 use Rattle.request_judging.proofs.TreesSteps.{no-root, two-roots}
-use borrow.Author.Needs.{needs}
 use Rattle.request_judging.proofs.trees.one_root.Statement.{statement}
 use Rattle.request_judging.proofs.trees.one_root.Tie as tie
 
