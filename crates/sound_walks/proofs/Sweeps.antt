@@ -185,10 +185,6 @@ module _ (t : Table) (owns fine : ℕ → Bool) (path : ℕ → List ℕ) (step 
         (λ m. lie (sym (marked-none j q) ∙ m))
         (λ _ m. ap (λ (p : ℕ). isIn j (path p)) (sym e) ∙ m)
 
-    -- a parent whose child was marked owns it
-    pub pass-owner : sweep step 256 0 none-seen .ok ≡ true → (j : ℕ) → j < 256 → marked (sweep step 256 0 none-seen .seen) j ≡ true → owns (up t j) ≡ true
-    pass-owner ok j q m = sweep-marks 256 0 none-seen j ok (rw none-length q) m (λ n. lie (sym (marked-none j q) ∙ n)) (λ o _. o)
-
     pub fine-pass : ((i : ℕ) → i < 256 → owns i ≡ true → fine i ≡ true) → sweep step 256 0 none-seen .ok ≡ true
     fine-pass f = sweep-fine 256 0 none-seen (λ h p q. f h (omega arith))
 

@@ -91,16 +91,3 @@ module _ (f : ℕ → Bool) where
       or-elim (eqb j k) (isIn j ks) q
       (λ e. rw (eqb-true j k e) (and-left (f k) (allIn f ks) h))
       (λ e. in-all j ks (and-right (f k) (allIn f ks) h) e)
-
--- two tests of a list are one
-pub all-and : (f g : ℕ → Bool) (js : List ℕ) → allIn (λ j. f j && g j) js ≡ (allIn f js && allIn g js)
-unfolding allIn
-all-and f g [] = refl
-all-and f g (j ∷ js) = rw (all-and f g js) (swap (f j) (g j) (allIn f js) (allIn g js))
-  where
-    swap : (a b c d : Bool) → (a && b && (c && d)) ≡ (a && c && (b && d))
-    swap false b c d = refl
-    swap true true true d = refl
-    swap true true false d = refl
-    swap true false true d = refl
-    swap true false false d = refl
