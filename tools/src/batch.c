@@ -20,7 +20,7 @@
 #include "shots.h"
 #include "view.h"
 
-enum { ROOM = 8192, MOST = 65536 };
+enum { ROOM = 8192, MOST = 65536, SLOT_WORDS = 11 };
 
 /* ---- writing */
 
@@ -134,12 +134,29 @@ static void deep(enum deep which, const char *table, uint16_t node, uint16_t tou
     measured(table, " listed"), request(&list, ROOM);
 }
 
+/* Begin 1, and each of 255 blossoms the one node of the next one's ring: no table takes the check deeper, which then finds the innermost
+   ring too short. */
+static void hollow(void) {
+    make(1);
+    put('K', 1), put('W', 1), put(256 + 255 + 255 + 2, 2);
+    for (int i = 0; i < 256; i++) {
+        put(SLOT_WORDS * i, 2), put(i < 255 ? 1 : 3, 2);
+        if (i < 255) put(SLOT_WORDS * i + 1, 2), put(i + 1, 2);
+        if (i > 0) put(SLOT_WORDS * i + 4, 2), put(i - 1, 2);
+    }
+    put(WORDS - 2, 2), put(1, 2);
+    put(WORDS - 1, 2), put(255, 2);
+    measured("hollow nest", " checked"), put('S', 1);
+    put('B', 1);
+}
+
 static void deepest(void) {
     put_name('N', "the deepest tables");
     deep(TREE_TABLE, "tree", 254, 254);
     deep(WIDE_TABLE, "wide tree", 254, 254);
     deep(NESTED_TABLE, "nest", 255, 0);
     deep(OUTSIDE_TABLE, "nest touched outside", 255, 170);
+    hollow();
 }
 
 /* ---- shots */
