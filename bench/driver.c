@@ -146,7 +146,7 @@ static void conflict(const char *what, unsigned times, int requested)
 	if (strcmp(what, "meet") == 0)
 		length = request(unnamed, unnamed);
 	else if (strcmp(what, "hang") == 0) {
-		pairs(unnamed, unnamed + 2);
+		meet(unnamed, unnamed + 1, unnamed, unnamed + 1);
 		length = request(unnamed, unnamed);
 	} else if (strcmp(what, "close") == 0)
 		length = request(0, 0);
