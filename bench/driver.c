@@ -51,7 +51,8 @@ static void must(int fine, const char *what)
 static void meet(uint16_t a, uint16_t b, uint16_t touch_a, uint16_t touch_b)
 {
 	boltclover_size written;
-	must(boltclover_conflict(table, a, b, touch_a, touch_b, 1000 + touch_a, 1000 + touch_b, out, MOST, &written) == 0, "a conflict is refused");
+	uint16_t side;
+	must(boltclover_conflict(table, a, b, touch_a, touch_b, 1000 + touch_a, 1000 + touch_b, out, MOST, &written, &side) == 0, "a conflict is refused");
 }
 
 static void make(uint16_t begin) { must(boltclover_make(table, begin) == 0, "making is refused"); }
@@ -90,7 +91,8 @@ static void build(const char *name)
 	}
 	if (settled) {
 		boltclover_size written;
-		must(boltclover_virtual_conflict(table, end, end_touch, 1, 2, out, MOST, &written) == 0, "the virtual conflict is refused");
+		uint16_t side;
+		must(boltclover_virtual_conflict(table, end, end_touch, 1, 2, out, MOST, &written, &side) == 0, "the virtual conflict is refused");
 	}
 }
 
@@ -160,7 +162,7 @@ static void conflict(const char *what, unsigned times, int requested)
 		boltclover_size written, unread;
 		memcpy(table, before, sizeof table);
 		must(boltclover_run(table, tape, length, out, MOST, MOST, &stop, &handled, &written, &unread) == 0, "the run is refused");
-		must(unread == 0 && (length == 0 || written > 6), "the conflict is refused");
+		must(unread == 0 && (length == 0 || written > 8), "the conflict is refused");
 	}
 }
 
@@ -185,7 +187,8 @@ static uint16_t node, touch;
 static void match(void)
 {
 	boltclover_size written;
-	must(boltclover_virtual_conflict(table, node, touch, 1, 2, out, MOST, &written) == 0, "the virtual conflict is refused");
+	uint16_t side;
+	must(boltclover_virtual_conflict(table, node, touch, 1, 2, out, MOST, &written, &side) == 0, "the virtual conflict is refused");
 }
 
 static void nothing(void) {}

@@ -11,12 +11,12 @@
  *
  * What is lent. Every pointer is lent for the call alone. None may be NULL, also where its length is 0. A table is
  * BOLTCLOVER_TABLE_WORDS words, in any memory of the caller's (static, stack, heap). Each pointer is aligned as the type that it
- * points to: table and stop by 2 bytes, handled by 4, written and unread by 8; tape and out need no alignment. The objects of one
+ * points to: table, side and stop by 2 bytes, handled by 4, written and unread by 8; tape and out need no alignment. The objects of one
  * call must not overlap. Calls on different tables may run at the same time; calls on one table may not.
  *
- * What a call changes. An accepted call changes the table, *written and the first *written bytes of out; later bytes of out
- * stay as they were. A refused call changes nothing but *written, which it sets to 0: the table and every byte of out stay as
- * they were. The old contents of *written, *stop, *handled and *unread are never read.
+ * What a call changes. An accepted call changes the table, *written, *side and the first *written bytes of out; later bytes of out
+ * stay as they were. A refused call changes nothing but *written, which it sets to 0, and *side: the table and every byte of out stay
+ * as they were. *side is set at every return. The old contents of *written, *side, *stop, *handled and *unread are never read.
  *
  * What is asked of the caller. Of the values nothing: every table, number, tape and length may be passed, and every call ends.
  * A table that was not made, or that something else wrote into, is found out by each call and refused (number 1).
@@ -27,7 +27,7 @@
  *              2 virtual conflict (node, touch, vertex, virtual vertex; 14)   3 expansion (node; 4)   4 reset (2)   5 list (2)
  *   commands  16 speed (node, then 0 Stay, 1 Grow, 2 Shrink; 6)   17 create (node; 4)   18 expand (node; 4)
  *   entries   20 pair (node, peer, through, peer through; 14)   21 virtual pair (node, through, virtual vertex; 12)
- *   end       19 (0 or the refusal's number; 4), written by boltclover_run alone
+ *   end       19 (0 or the refusal's number, the side; 6), written by boltclover_run alone
  */
 #ifndef BOLTCLOVER_H
 #define BOLTCLOVER_H
@@ -52,7 +52,7 @@ typedef uint64_t boltclover_size; /* a length, room or count of bytes, on every 
 #define BOLTCLOVER_TABLE_WORDS 2819 /* 256 slots of eleven words, then begin and two counts */
 #define BOLTCLOVER_COMMAND_ROOM 4096 /* bytes of out that conflict, virtual_conflict and expand want: 512 commands of 8 bytes */
 #define BOLTCLOVER_LISTING_ROOM(defects) ((boltclover_size)16 * (defects)) /* bytes of out that list wants; 4096 is always enough */
-#define BOLTCLOVER_RUN_ROOM 4102 /* bytes of out that run wants left before it handles a record */
+#define BOLTCLOVER_RUN_ROOM 4104 /* bytes of out that run wants left before it handles a record */
 
 #define BOLTCLOVER_NO_NODE 65535u
 #define BOLTCLOVER_NO_VERTEX 4294967295u
@@ -75,6 +75,14 @@ enum {
     BOLTCLOVER_BAD_BEGIN = 13         /* begin is not 1 to 256 */
 };
 
+/* Which side of a conflict a refusal is for: 3, 4 and 6 name the first node (with its touch and its vertex) that fails the check,
+   node_1 before node_2. A virtual conflict's are all of side 1. After any other number and after 0 there is no side. */
+enum {
+    BOLTCLOVER_NO_SIDE = 0,
+    BOLTCLOVER_SIDE_1 = 1,
+    BOLTCLOVER_SIDE_2 = 2
+};
+
 /* Why a run stopped. The first that applies, asked before each record. */
 enum {
     BOLTCLOVER_TAPE_EMPTY = 0,
@@ -94,13 +102,15 @@ uint16_t boltclover_reset(uint16_t *table);
 uint16_t boltclover_sound(const uint16_t *table);
 
 /* Two nodes touch: node_1 by its defect touch_1 at vertex_1, node_2 by touch_2 at vertex_2. A defect that the table has not
-   seen is loaded first. Commands for the dual half go to out. 0, or in this order 1, 9, 3, 4, 5, 6, 7, 8. */
+   seen is loaded first. Commands for the dual half go to out. 0, or in this order 1, 9, 3, 4, 5, 6, 7, 8; *side says which node
+   3, 4 and 6 are for. */
 uint16_t boltclover_conflict(uint16_t *table, uint16_t node_1, uint16_t node_2, uint16_t touch_1, uint16_t touch_2,
-                             uint32_t vertex_1, uint32_t vertex_2, uint8_t *out, boltclover_size room, boltclover_size *written);
+                             uint32_t vertex_1, uint32_t vertex_2, uint8_t *out, boltclover_size room, boltclover_size *written,
+                             uint16_t *side);
 
-/* A node touches a virtual vertex. 0, or in this order 1, 9, 3, 4, 6, 7. */
+/* A node touches a virtual vertex. 0, or in this order 1, 9, 3, 4, 6, 7; *side is 1 with 3, 4 and 6, else 0. */
 uint16_t boltclover_virtual_conflict(uint16_t *table, uint16_t node, uint16_t touch, uint32_t vertex, uint32_t virtual_vertex,
-                                     uint8_t *out, boltclover_size room, boltclover_size *written);
+                                     uint8_t *out, boltclover_size room, boltclover_size *written, uint16_t *side);
 
 /* A shrinking blossom is taken apart. 0, or in this order 1, 9, 11. */
 uint16_t boltclover_expand(uint16_t *table, uint16_t node, uint8_t *out, boltclover_size room, boltclover_size *written);
@@ -108,7 +118,7 @@ uint16_t boltclover_expand(uint16_t *table, uint16_t node, uint8_t *out, boltclo
 /* Lists every matched pair of defects, those inside blossoms too, as pair and virtual pair records. 0, or 1, 10. */
 uint16_t boltclover_list(const uint16_t *table, uint8_t *out, boltclover_size room, boltclover_size *written);
 
-/* Handles the requests of a tape, at most allowance of them. Each writes its records and an end record with 0 or its refusal;
+/* Handles the requests of a tape, at most allowance of them. Each writes its records and an end record with 0 or its refusal and side;
    a refused request does not stop the run. Gives *stop, the requests handled, the bytes written, and the bytes left unread:
    the last *unread bytes of the tape. 0; or 1 on a table that is not sound, with *stop, *handled and *written 0 and *unread
    the whole length. */

@@ -70,6 +70,7 @@ static void say_answers(const uint8_t *bytes, boltclover_size written) {
         case 19:
             if (narrow(field)) say(" refused"), say_number(narrow(field));
             else say(" end");
+            if (narrow(field + 2)) say(" at side"), say_number(narrow(field + 2));
             break;
         case 20: say(" pair"), say_node(field), say_node(field + 2), say(" through"), say_vertex(field + 4), say_vertex(field + 8); break;
         case 21: say(" pair"), say_node(field), say(" virtual"), say_vertex(field + 6), say(" through"), say_vertex(field + 2); break;

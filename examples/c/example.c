@@ -20,7 +20,10 @@ static void say(const uint8_t *bytes, boltclover_size written) {
         case 16: printf("  node %u %s\n", narrow(field), speeds[narrow(field + 2)]); break;
         case 17: printf("  blossom %u is made\n", narrow(field)); break;
         case 18: printf("  blossom %u is taken apart\n", narrow(field)); break;
-        case 19: printf("  end %u\n", narrow(field)); break;
+        case 19:
+            if (narrow(field + 2)) printf("  end %u at side %u\n", narrow(field), narrow(field + 2));
+            else printf("  end %u\n", narrow(field));
+            break;
         case 20: printf("  %u pairs with %u, through vertices %lu and %lu\n", narrow(field), narrow(field + 2), wide(field + 4), wide(field + 8)); break;
         case 21: printf("  %u pairs with the virtual vertex %lu, through vertex %lu\n", narrow(field), wide(field + 6), wide(field + 2)); break;
         }
@@ -42,10 +45,11 @@ static size_t conflict_record(uint8_t *to, unsigned node_1, unsigned node_2, uns
 
 int main(void) {
     boltclover_size written;
+    uint16_t side;
 
     printf("make a table of 128 defect slots: %u\n", boltclover_make(table, 128));
 
-    uint16_t answer = boltclover_conflict(table, 0, 1, 0, 1, 10, 11, out, sizeof out, &written);
+    uint16_t answer = boltclover_conflict(table, 0, 1, 0, 1, 10, 11, out, sizeof out, &written, &side);
     printf("conflict of 0 and 1: %u, %zu bytes\n", answer, (size_t)written);
     say(out, written);
 
@@ -53,9 +57,11 @@ int main(void) {
     printf("list: %u, %zu bytes\n", answer, (size_t)written);
     say(out, written);
 
-    answer = boltclover_conflict(table, 0, 0, 0, 0, 10, 11, out, sizeof out, &written);
+    answer = boltclover_conflict(table, 0, 0, 0, 0, 10, 11, out, sizeof out, &written, &side);
     printf("conflict of 0 with itself: %u, %zu bytes\n", answer, (size_t)written);
-    answer = boltclover_conflict(table, 2, 3, 2, 3, 12, 13, out, 4095, &written);
+    answer = boltclover_conflict(table, 2, 256, 2, 3, 12, 13, out, sizeof out, &written, &side);
+    printf("conflict of 2 with 256: %u at side %u, %zu bytes\n", answer, side, (size_t)written);
+    answer = boltclover_conflict(table, 2, 3, 2, 3, 12, 13, out, 4095, &written, &side);
     printf("conflict with 4,095 bytes of room: %u, %zu bytes\n", answer, (size_t)written);
 
     /* A tape: 2 meets the pair 0, 1, then the far end of it, which makes a blossom; then the listing; then a cut record. */
@@ -76,6 +82,6 @@ int main(void) {
     printf("sound: %u\n", boltclover_sound(table));
     table[0] = 77;
     printf("sound with a word overwritten: %u; a conflict is then refused by %u\n", boltclover_sound(table),
-           boltclover_conflict(table, 4, 5, 4, 5, 14, 15, out, sizeof out, &written));
+           boltclover_conflict(table, 4, 5, 4, 5, 14, 15, out, sizeof out, &written, &side));
     return 0;
 }

@@ -42,6 +42,26 @@ pub enum Refusal {
     BadBegin = 13,
 }
 
+/// Which of a conflict's two nodes a refusal is for. A virtual conflict's one node is the first.
+#[derive(Clone, Copy, PartialEq, Eq, Debug)]
+pub enum Side {
+    First = 1,
+    Second = 2,
+}
+
+/// A conflict or a virtual conflict that was refused: the number, and the side, which 3, 4 and 6 name and no other does.
+#[derive(Clone, Copy, PartialEq, Eq, Debug)]
+pub struct Refused {
+    pub refusal: Refusal,
+    pub side: Option<Side>,
+}
+
+impl From<Refused> for Refusal {
+    fn from(refused: Refused) -> Refusal {
+        refused.refusal
+    }
+}
+
 /// Why a run stopped.
 #[derive(Clone, Copy, PartialEq, Eq, Debug)]
 pub enum Stop {
@@ -82,7 +102,7 @@ pub struct Run<'tape> {
 
 pub const WORDS: usize = 2819;
 pub const COMMAND_ROOM: usize = 4096;
-pub const RUN_ROOM: usize = 4102;
+pub const RUN_ROOM: usize = 4104;
 
 /// A table. It can only be had by making one, and only the calls change it.
 #[derive(Clone)]
@@ -105,6 +125,7 @@ extern "C" {
         out: *mut u8,
         room: Size,
         written: *mut Size,
+        side: *mut u16,
     ) -> u16;
     fn boltclover_virtual_conflict(
         table: *mut u16,
@@ -115,6 +136,7 @@ extern "C" {
         out: *mut u8,
         room: Size,
         written: *mut Size,
+        side: *mut u16,
     ) -> u16;
     fn boltclover_expand(table: *mut u16, node: u16, out: *mut u8, room: Size, written: *mut Size) -> u16;
     fn boltclover_list(table: *const u16, out: *mut u8, room: Size, written: *mut Size) -> u16;
@@ -159,6 +181,15 @@ fn told<T>(number: u16, done: T) -> Result<T, Refusal> {
     }
 }
 
+fn told_with_side<T>(number: u16, side: u16, done: T) -> Result<T, Refused> {
+    let side = match side {
+        1 => Some(Side::First),
+        2 => Some(Side::Second),
+        _ => None,
+    };
+    told(number, done).map_err(|refusal| Refused { refusal, side })
+}
+
 impl Table {
     /// A fresh table: slots below `begin`, 1 to 256, are for defects.
     pub fn new(begin: u16) -> Result<Table, Refusal> {
@@ -176,8 +207,8 @@ impl Table {
     }
 
     /// The commands, in the first bytes of `out`, which has at least `COMMAND_ROOM` bytes.
-    pub fn conflict<'out>(&mut self, c: Conflict, out: &'out mut [u8]) -> Result<&'out [u8], Refusal> {
-        let mut written = 0;
+    pub fn conflict<'out>(&mut self, c: Conflict, out: &'out mut [u8]) -> Result<&'out [u8], Refused> {
+        let (mut written, mut side) = (0, 0);
         let number = unsafe {
             boltclover_conflict(
                 self.words.as_mut_ptr(),
@@ -190,13 +221,14 @@ impl Table {
                 out.as_mut_ptr(),
                 out.len() as Size,
                 &mut written,
+                &mut side,
             )
         };
-        told(number, &out[..written as usize])
+        told_with_side(number, side, &out[..written as usize])
     }
 
-    pub fn virtual_conflict<'out>(&mut self, c: VirtualConflict, out: &'out mut [u8]) -> Result<&'out [u8], Refusal> {
-        let mut written = 0;
+    pub fn virtual_conflict<'out>(&mut self, c: VirtualConflict, out: &'out mut [u8]) -> Result<&'out [u8], Refused> {
+        let (mut written, mut side) = (0, 0);
         let number = unsafe {
             boltclover_virtual_conflict(
                 self.words.as_mut_ptr(),
@@ -207,9 +239,10 @@ impl Table {
                 out.as_mut_ptr(),
                 out.len() as Size,
                 &mut written,
+                &mut side,
             )
         };
-        told(number, &out[..written as usize])
+        told_with_side(number, side, &out[..written as usize])
     }
 
     pub fn expand<'out>(&mut self, node: Node, out: &'out mut [u8]) -> Result<&'out [u8], Refusal> {

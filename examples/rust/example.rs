@@ -18,6 +18,7 @@ fn say(mut bytes: &[u8]) {
             16 => println!("  node {} {}", narrow(field), ["stays", "grows", "shrinks"][narrow(&field[2..]) as usize]),
             17 => println!("  blossom {} is made", narrow(field)),
             18 => println!("  blossom {} is taken apart", narrow(field)),
+            19 if narrow(&field[2..]) > 0 => println!("  end {} at side {}", narrow(field), narrow(&field[2..])),
             19 => println!("  end {}", narrow(field)),
             20 => println!("  {} pairs with {}, through vertices {} and {}", narrow(field), narrow(&field[2..]), wide(&field[4..]), wide(&field[8..])),
             _ => println!("  {} pairs with the virtual vertex {}, through vertex {}", narrow(field), wide(&field[6..]), wide(&field[2..])),
@@ -49,6 +50,7 @@ fn main() {
     say(table.list(&mut out).unwrap());
 
     println!("conflict of 0 with itself: {:?}", table.conflict(touch(0, 0), &mut out));
+    println!("conflict of 2 with 256: {:?}", table.conflict(touch(2, 256), &mut out));
     println!("conflict with 4,095 bytes of room: {:?}", table.conflict(touch(2, 3), &mut out[..4095]));
     println!("expansion of 128: {:?}", table.expand(Node(128), &mut out));
     let virtual_conflict = VirtualConflict { node: Node(2), touch: Node(2), vertex: Vertex::NONE, virtual_vertex: Vertex(99) };

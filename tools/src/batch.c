@@ -70,8 +70,9 @@ static void put_request(const Request *r, uint32_t room) {
 
 static void request(const Request *r, uint32_t room) {
     boltclover_size written;
+    uint16_t side;
     put_request(r, room);
-    call_port(words, r, out, room, &written);
+    call_port(words, r, out, room, &written, &side);
 }
 
 static void put_run(const uint8_t *tape, size_t length, uint32_t room, uint32_t allowance) {

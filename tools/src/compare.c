@@ -19,7 +19,7 @@ enum { ROOM = 8192, RUN_BYTES = 65536, BATCH = 2000, FILL = 0xa5 };
 /* ---- counts */
 
 static struct {
-    unsigned long accepted[ROWS], refused[14], stops[4], runs, tapes, tables, kept_sound, damaged, broken[9], nests, nests_broken[9], differences, shots, begins;
+    unsigned long accepted[ROWS], refused[14], at_side[14][3], stops[4], runs, tapes, tables, kept_sound, damaged, broken[9], nests, nests_broken[9], differences, shots, begins;
     unsigned long by_plan[PLANS], nested_expansions[3], commands;
     int deepest, largest_tree, longest_way, largest_ring;
     unsigned char begin_used[257];
@@ -137,7 +137,7 @@ static void measure(const View *t, const Request *r, Row row, const View *after)
     }
 }
 
-/* One request: the number against the second reading, a refusal's bytes and table against those before, an accepted one's
+/* One request: number and side against the second reading, a refusal's bytes and table against those before, an accepted one's
    against the original's. Says whether it was accepted; what was said stands in out. */
 static int try_request(const char *original, uint16_t *words, const Request *r, size_t room, uint8_t *out, boltclover_size *written) {
     static View before, after;
@@ -145,12 +145,15 @@ static int try_request(const char *original, uint16_t *words, const Request *r, 
     read_view(&before, words);
     memcpy(kept, words, sizeof kept);
     memset(out, FILL, ROOM);
-    int number = refusal_of(&before, r, room);
+    int side, number = refusal_of(&before, r, room, &side);
+    uint16_t at_side = 9;
     *written = 77777;
-    int given = call_port(words, r, out, room, written);
-    if (given != number && difference("number", shot_number, step_number, r)) printf("  the port gives %d, the second reading %d\n", given, number);
+    int given = call_port(words, r, out, room, written, &at_side);
+    if ((given != number || at_side != side) && difference("number or side", shot_number, step_number, r))
+        printf("  the port gives %d at side %d, the second reading %d at side %d\n", given, at_side, number, side);
     if (given) {
         counts.refused[given < 14 ? given : 0]++;
+        if (given < 14 && at_side < 3) counts.at_side[given][at_side]++;
         if (*written != 0 || memcmp(kept, words, sizeof kept) || !all_are(out, 0, ROOM, FILL)) difference("a refusal changed something", shot_number, step_number, r);
         return 0;
     }
@@ -243,15 +246,16 @@ static void try_run(Shot *shot, const Bytes *good) {
         boltclover_size wrote = 0;
         if (at == tape.length) { why = 0; break; }
         if (count == allowance) { why = 1; break; }
-        if (room - pos < 4102) { why = 2; break; }
+        if (room - pos < 4104) { why = 2; break; }
         int size = read_request(&r, tape.bytes + at, tape.length - at);
         if (!size) { why = 3; break; }
         read_view(&t, want_words);
-        int number = refusal_of(&t, &r, room - pos);
-        if (!number) call_port(want_words, &r, want + pos, room - pos, &wrote);
-        const uint8_t end[] = {4, 0, 19, 0, number, 0};
-        memcpy(want + pos + wrote, end, 6);
-        pos += wrote + 6, at += size;
+        int side, number = refusal_of(&t, &r, room - pos, &side);
+        uint16_t none;
+        if (!number) call_port(want_words, &r, want + pos, room - pos, &wrote, &none);
+        const uint8_t end[] = {6, 0, 19, 0, number, 0, side, 0};
+        memcpy(want + pos + wrote, end, sizeof end);
+        pos += wrote + sizeof end, at += size;
     }
     uint16_t stop;
     uint32_t handled;
@@ -268,7 +272,7 @@ static void try_tape(const char *original, const Shot *shot, const Bytes *tape, 
     char word[8];
     said.length = 0;
     snprintf(word, sizeof word, "%u", shot->begin);
-    int status = run_program(original, word, tape, &said);
+    int status = run_on_tape(original, word, tape, &said);
     counts.tapes++;
     if (status || said.length != answers->length || memcmp(said.bytes, answers->bytes, said.length)) difference("a whole tape", shot_number, step_number, NULL);
 }
@@ -288,7 +292,7 @@ static void play(const char *original, uint64_t seed) {
     Shot shot = new_shot(seed, shot_number);
     uint16_t words[WORDS];
     uint8_t out[ROOM], record[LONGEST_REQUEST];
-    const uint8_t end[] = {4, 0, 19, 0, 0, 0};
+    const uint8_t end[] = {6, 0, 19, 0, 0, 0, 0, 0};
     boltclover_size written;
     every.length = answers.length = shot_tape.length = 0;
     memset(words, FILL, sizeof words);
@@ -330,6 +334,10 @@ static void report(uint64_t seed) {
     for (int i = 1; i < 9; i++) printf(" S%d %lu%s", i, counts.nests_broken[i], i < 8 ? "," : "\n");
     printf("refusals:");
     for (int i = 1; i < 14; i++) printf(" %d: %lu%s", i, counts.refused[i], i < 13 ? "," : "\n");
+    printf("of these at side 1 and 2:");
+    for (int i = 1; i < 14; i++)
+        if (counts.at_side[i][1] || counts.at_side[i][2]) printf(" %d: %lu and %lu;", i, counts.at_side[i][1], counts.at_side[i][2]);
+    printf(" the others at no side\n");
     printf("runs: %lu, stopped by the tape's end %lu, the allowance %lu, room %lu, a bad record %lu\n", counts.runs, counts.stops[0], counts.stops[1], counts.stops[2], counts.stops[3]);
     printf("differences: %lu\n", counts.differences);
 }

@@ -204,22 +204,30 @@ int present_defects(const View *t) {
 
 static int grows(Place p) { return p == FREE || p == PLUS; }
 
-int refusal_of(const View *t, const Request *r, size_t room) {
+/* "When both sides fail the same check, side 1 is named." */
+static int named(int first_fails, int second_fails) { return first_fails ? 1 : second_fails ? 2 : 0; }
+
+int refusal_of(const View *t, const Request *r, size_t room, int *side) {
+    *side = 0;
     if (!is_sound(t)) return 1;
     if (r->kind == RESET) return 0;
     if (r->kind == LIST) return room < 16 * (size_t)present_defects(t) ? 10 : 0;
     if (room < 4096) return 9;
     Place a = place_of(t, r->node_1);
     if (r->kind == EXPANSION) return r->node_1 < SLOTS && r->node_1 >= t->begin && a == MINUS ? 0 : 11;
-    Place b = r->kind == CONFLICT ? place_of(t, r->node_2) : a;
-    if (a == NO_PLACE || b == NO_PLACE || r->vertex_1 == NO_VERTEX || r->vertex_2 == NO_VERTEX) return 3;
-    if (a == INSIDE || b == INSIDE) return 4;
     if (r->kind == VIRTUAL) {
+        *side = 1;
+        if (a == NO_PLACE || r->vertex_1 == NO_VERTEX || r->vertex_2 == NO_VERTEX) return 3;
+        if (a == INSIDE) return 4;
         if (touch_outside(t, r->node_1, r->touch_1)) return 6;
+        *side = 0;
         return grows(a) ? 0 : 7;
     }
+    Place b = place_of(t, r->node_2);
+    if ((*side = named(a == NO_PLACE || r->vertex_1 == NO_VERTEX, b == NO_PLACE || r->vertex_2 == NO_VERTEX))) return 3;
+    if ((*side = named(a == INSIDE, b == INSIDE))) return 4;
     if (r->node_1 == r->node_2) return 5;
-    if (touch_outside(t, r->node_1, r->touch_1) || touch_outside(t, r->node_2, r->touch_2)) return 6;
+    if ((*side = named(touch_outside(t, r->node_1, r->touch_1), touch_outside(t, r->node_2, r->touch_2)))) return 6;
     if (a == MINUS || b == MINUS || (!grows(a) && !grows(b))) return 7;
     if (a == PLUS && b == PLUS && root_of(t, r->node_1) == root_of(t, r->node_2) && t->begin + t->blossoms == 256) return 8;
     return 0;

@@ -8,8 +8,8 @@
 int is_sound(const View *t);
 int broken_rule(const View *t); /* 0, or the first of S1 to S8 that the table breaks */
 int present_defects(const View *t);
-/* 0, or the first number that applies, in 01's order for the request's kind */
-int refusal_of(const View *t, const Request *r, size_t room);
+/* 0, or the first number that applies, in the rules' order for the request's kind; and its side, 0 where it names none */
+int refusal_of(const View *t, const Request *r, size_t room, int *side);
 
 typedef enum {
     FREE_FREE,

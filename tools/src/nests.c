@@ -9,7 +9,8 @@ enum { SLOT = 11, RING_NEXT = 3, RING_FIRST = 4, TOUCH = 5, PEER_TOUCH = 6 };
 static int meet(uint16_t *words, uint32_t a, uint32_t b, uint32_t touch_a, uint32_t touch_b) {
     uint8_t out[8192];
     size_t written;
-    return boltclover_conflict(words, a, b, touch_a, touch_b, 1000 + touch_a, 1000 + touch_b, out, sizeof out, &written) == 0;
+    uint16_t side;
+    return boltclover_conflict(words, a, b, touch_a, touch_b, 1000 + touch_a, 1000 + touch_b, out, sizeof out, &written, &side) == 0;
 }
 
 int build_nest(Dice *dice, uint16_t *words, uint32_t depth) {

@@ -97,3 +97,28 @@ int run_program(const char *program, const char *word, const Bytes *input, Bytes
     }
     return WIFSIGNALED(status) ? 128 + WTERMSIG(status) : WEXITSTATUS(status);
 }
+
+/* Records that stand one after another, the end records widened; what is no whole record stays as it is. */
+static void widen_ends(const Bytes *from, Bytes *to) {
+    static const uint8_t narrow[] = {4, 0, 19, 0}, wide[] = {6, 0, 19, 0}, side[] = {0, 0};
+    size_t at = 0;
+    while (from->length - at >= 4) {
+        size_t size = 2 + (from->bytes[at] | (size_t)from->bytes[at + 1] << 8);
+        if (from->length - at < size) break;
+        if (memcmp(from->bytes + at, narrow, 4)) {
+            append(to, from->bytes + at, size);
+        } else {
+            append(to, wide, 4), append(to, from->bytes + at + 4, 2), append(to, side, 2);
+        }
+        at += size;
+    }
+    append(to, from->bytes + at, from->length - at);
+}
+
+int run_on_tape(const char *program, const char *begin, const Bytes *tape, Bytes *answers) {
+    static Bytes said;
+    said.length = 0;
+    int status = run_program(program, begin, tape, &said);
+    widen_ends(&said, answers);
+    return status;
+}

@@ -16,4 +16,8 @@ void append(Bytes *to, const void *from, size_t length);
    that cannot be started, or that answers nothing at all to some input, is no original: the tool then says so and ends with status 2. */
 int run_program(const char *program, const char *word, const Bytes *input, Bytes *output);
 
+/* The same with a tape, and begin as the word. The original knows no refusals, and so no sides: its program ends each request by a record
+   19 of length 4, with 0. It comes back as the rules have it now, of length 6, with side 0. */
+int run_on_tape(const char *program, const char *begin, const Bytes *tape, Bytes *answers);
+
 #endif

@@ -1,5 +1,5 @@
 /* Plays a batch (batch.c) on the library that it is linked with: play <BATCH >WHAT-HAPPENED 2>STACK
-   Each call gives a line: what was called, the number given back, the bytes written, the words of the table that changed. All bytes and
+   Each call gives a line: what was called, the number given back and its side, the bytes written, the words of the table that changed. All bytes and
    words are in it, the first of them as they are and all of them in a sum; so two libraries that do the same give the same lines. Bytes
    lie at any address, the table at one that is aligned by 2 and no more. */
 #include "machine.h"
@@ -146,7 +146,7 @@ static const uint8_t *tape;
 static uint32_t length, room, allowance;
 static uint16_t begin, answer;
 static struct {
-    uint16_t stop;
+    uint16_t stop, side;
     uint32_t handled;
     boltclover_size written, unread;
 } told;
@@ -154,7 +154,7 @@ static struct {
 static void nothing(void) {}
 static void make(void) { answer = boltclover_make(table, begin); }
 static void check(void) { answer = boltclover_sound(table); }
-static void request(void) { answer = call_port(table, &asked, out, room, &told.written); }
+static void request(void) { answer = call_port(table, &asked, out, room, &told.written, &told.side); }
 static void run(void) {
     answer = boltclover_run(table, tape, length, out, room, allowance, &told.stop, &told.handled, &told.written, &told.unread);
 }
@@ -189,7 +189,7 @@ static void say_stack(const char *name, const Stack *stack) {
 }
 
 static void do_call(void (*call)(void)) {
-    told.stop = 9, told.handled = 9, told.written = 77777, told.unread = 77777;
+    told.stop = 9, told.side = 9, told.handled = 9, told.written = 77777, told.unread = 77777;
     if (!measured[0]) {
         call_with(&common_stack, call);
         return;
@@ -227,7 +227,7 @@ static void play_request(void) {
     fill(number, room);
     do_call(request);
     requests++, accepted += answer == 0;
-    say(" room"), say_spaced(room), say(":"), say_spaced(answer), say(" written"), say_size(told.written), say_bytes(told.written), say_words();
+    say(" room"), say_spaced(room), say(":"), say_spaced(answer), say(" side"), say_spaced(told.side), say(" written"), say_size(told.written), say_bytes(told.written), say_words();
 }
 
 static void play_run(void) {

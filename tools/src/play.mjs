@@ -14,7 +14,7 @@ const short = Math.ceil((end - library.memory.buffer.byteLength) / 65536);
 if (short > 0) library.memory.grow(short);
 const memory = new Uint8Array(library.memory.buffer), view = new DataView(library.memory.buffer);
 const words = new Uint16Array(library.memory.buffer, table, WORDS);
-const WRITTEN = told, UNREAD = told + 8, HANDLED = told + 16, STOP = told + 20;
+const WRITTEN = told, UNREAD = told + 8, HANDLED = told + 16, STOP = told + 20, SIDE = told + 22;
 const known = new Uint16Array(WORDS);
 let kept = new Uint16Array(WORDS);
 
@@ -103,7 +103,7 @@ function touched() {
     return STACK - low;
 }
 function call(name, ...values) {
-    view.setUint16(STOP, 9, true), view.setUint32(HANDLED, 9, true);
+    view.setUint16(STOP, 9, true), view.setUint16(SIDE, 9, true), view.setUint32(HANDLED, 9, true);
     view.setBigUint64(WRITTEN, 77777n, true), view.setBigUint64(UNREAD, 77777n, true);
     if (measured) deepest = Math.max(deepest, touched()), memory.fill(FILL, 0, STACK);
     const answer = library['boltclover_' + name](...values) >>> 0;
@@ -123,11 +123,11 @@ function playRequest() {
     const fields = { 1: [2, 2, 2, 2, 4, 4], 2: [2, 2, 4, 4], 3: [2], 4: [], 5: [] }[kind].map(take);
     number++;
     fill(number, room);
-    const written = kind === 4 ? [] : [out, BigInt(room), WRITTEN];
-    const answer = call(['', 'conflict', 'virtual_conflict', 'expand', 'reset', 'list'][kind], table, ...fields, ...written);
+    const written = kind === 4 ? [] : [out, BigInt(room), WRITTEN], side = kind < 3 ? [SIDE] : [];
+    const answer = call(['', 'conflict', 'virtual_conflict', 'expand', 'reset', 'list'][kind], table, ...fields, ...written, ...side);
     requests++, accepted += answer === 0 ? 1 : 0;
     const head = [number, ['', 'conflict', 'virtual', 'expand', 'reset', 'list'][kind], ...fields].join(' ');
-    say(`${head} room ${room}: ${answer}${saidBytes(kind === 4 ? 0n : view.getBigUint64(WRITTEN, true))}${saidWords()}`);
+    say(`${head} room ${room}: ${answer} side ${kind < 3 ? view.getUint16(SIDE, true) : 0}${saidBytes(kind === 4 ? 0n : view.getBigUint64(WRITTEN, true))}${saidWords()}`);
 }
 
 function playRun() {

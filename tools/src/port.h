@@ -5,6 +5,7 @@
 #include "../../include/boltclover.h"
 #include "view.h"
 
-uint16_t call_port(uint16_t *words, const Request *r, uint8_t *out, size_t room, boltclover_size *written);
+/* The number given back; the side is 0 where the call tells none. */
+uint16_t call_port(uint16_t *words, const Request *r, uint8_t *out, size_t room, boltclover_size *written, uint16_t *side);
 
 #endif

@@ -24,6 +24,8 @@ static void make_tape(Bytes *tape, Shot first) {
     uint8_t out[8192], record[LONGEST_REQUEST];
     size_t answers = 0;
     boltclover_size written;
+    uint16_t side;
+    int at_side;
     Shot shot = first;
     boltclover_make(words, shot.begin);
     for (uint32_t step = 1; tape->length < MOST && answers < MOST - 4096; step++) {
@@ -33,9 +35,9 @@ static void make_tape(Bytes *tape, Shot first) {
             Dice dice = shot.dice;
             r = (Request){.kind = RESET}, shot = first, shot.dice = dice;
         }
-        if (refusal_of(&t, &r, sizeof out) || call_port(words, &r, out, sizeof out, &written)) continue;
+        if (refusal_of(&t, &r, sizeof out, &at_side) || call_port(words, &r, out, sizeof out, &written, &side)) continue;
         append(tape, record, write_request(record, &r));
-        answers += written + 6;
+        answers += written + 8;
     }
 }
 
@@ -65,7 +67,7 @@ int main(int argc, char **argv) {
         snprintf(name, sizeof name, "%s-%d", plan_names[shot.plan], i / PLANS + 1);
         for (char *c = name; *c; c++) *c = *c == ' ' ? '-' : *c;
         snprintf(begin, sizeof begin, "%u", shot.begin);
-        int status = run_program(argv[1], begin, &tape, &answers);
+        int status = run_on_tape(argv[1], begin, &tape, &answers);
         if (status) return end_progress(), fprintf(stderr, "the original, %s, stops within the tape %s, after %zu bytes of answers: status %d\n", argv[1], name, answers.length, status), 1;
         save(argv[2], name, "tape", &tape);
         save(argv[2], name, "tape.answers", &answers);

@@ -102,7 +102,7 @@ fn serve() -> Ending {
     let mut table = [0u16; table::layout::WORDS];
     match primal::make(&mut table, boltclover_shared::begin(turn::begin())) {
         Answer::Done(_) => answer_tape(&mut table, &tape[..n]),
-        Answer::Refused(_) => boltclover_shared::end_bad_begin(),
+        Answer::Refused(_, _) => boltclover_shared::end_bad_begin(),
     }
 }
 

@@ -1,4 +1,4 @@
-// Why a conflict was refused. Each number is tried on node_1 first, as the judge tries it.
+// Why a conflict was refused: 3, 4 and 6 at the side that the refusal names.
 use crate::node;
 use crate::reason::Reason;
 use crate::reason::of_node;
@@ -8,44 +8,10 @@ use crate::reason::unknown;
 use record::Conflict;
 use request_judging::nodes;
 use request_judging::states;
+use slot::Node;
+use slot::Vertex;
 use table::Table;
 use text::reasons;
-
-fn no_node_or_vertex(t: &Table, c: Conflict) -> Reason {
-    let node_1 = c.node_1;
-    let node_2 = c.node_2;
-    let vertex_1 = c.vertex_1;
-    if states::is_no_node(nodes::seen_state(t, node_1)) {
-        return node::no_node(node_1);
-    }
-    if states::is_no_node(nodes::seen_state(t, node_2)) {
-        return node::no_node(node_2);
-    }
-    if node::is_none(vertex_1) {
-        return of_node(reasons::NO_VERTEX, node_1);
-    }
-    of_node(reasons::NO_VERTEX, node_2)
-}
-
-fn not_outer(t: &Table, c: Conflict) -> Reason {
-    let node_1 = c.node_1;
-    let node_2 = c.node_2;
-    if states::is_not_outer(nodes::seen_state(t, node_1)) {
-        return node::not_outer(t, node_1);
-    }
-    node::not_outer(t, node_2)
-}
-
-fn touch(t: &Table, c: Conflict) -> Reason {
-    let node_1 = c.node_1;
-    let node_2 = c.node_2;
-    let touch_1 = c.touch_1;
-    let touch_2 = c.touch_2;
-    if nodes::touches_elsewhere(t, node_1, touch_1) {
-        return node::touch(t, node_1, touch_1);
-    }
-    node::touch(t, node_2, touch_2)
-}
 
 fn not_growing(t: &Table, c: Conflict) -> Reason {
     let node_1 = c.node_1;
@@ -68,15 +34,32 @@ fn no_slot(t: &Table) -> Reason {
     )
 }
 
-pub fn why(t: &Table, c: Conflict, number: u16) -> Reason {
-    let node_1 = c.node_1;
+// At the side of one node, with its touch and its vertex.
+fn at_side(t: &Table, n: Node, touch: Node, v: Vertex, number: u16) -> Reason {
     match number {
-        3 => no_node_or_vertex(t, c),
-        4 => not_outer(t, c),
+        3 => node::no_side(t, n, v),
+        4 => node::not_outer(t, n),
+        6 => node::touch(t, n, touch),
+        _ => unknown(),
+    }
+}
+
+pub fn why(t: &Table, c: Conflict, number: u16, side: u16) -> Reason {
+    let node_1 = c.node_1;
+    let node_2 = c.node_2;
+    let touch_1 = c.touch_1;
+    let touch_2 = c.touch_2;
+    let vertex_1 = c.vertex_1;
+    let vertex_2 = c.vertex_2;
+    match number {
         5 => of_node(reasons::SAME_NODE, node_1),
-        6 => touch(t, c),
         7 => not_growing(t, c),
         8 => no_slot(t),
-        _ => unknown(),
+        _ => {
+            if side == 1 {
+                return at_side(t, node_1, touch_1, vertex_1, number);
+            }
+            at_side(t, node_2, touch_2, vertex_2, number)
+        }
     }
 }

@@ -27,7 +27,7 @@ fn show_from_begin() -> Ending {
     let mut table = [0u16; table::layout::WORDS];
     match primal::make(&mut table, boltclover_shared::begin(tape::turn::begin())) {
         Answer::Done(_) => show(&mut table),
-        Answer::Refused(_) => boltclover_shared::end_bad_begin(),
+        Answer::Refused(_, _) => boltclover_shared::end_bad_begin(),
     }
 }
 

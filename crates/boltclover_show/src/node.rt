@@ -3,22 +3,27 @@ use crate::reason::Reason;
 use crate::reason::of_node;
 use crate::reason::of_nodes;
 use crate::reason::of_numbers;
+use request_judging::checks;
+use request_judging::nodes;
+use request_judging::states;
 use slot::Node;
 use slot::Vertex;
 use table::Table;
 use table::climb;
 use text::reasons;
 
-pub fn is_none(v: Vertex) -> bool {
-    v.0 == slot::number::NO_VERTEX
-}
-
-// 3.
-pub fn no_node(n: Node) -> Reason {
+// 3: the node, or the vertex that it touches.
+pub fn no_side(t: &Table, n: Node, v: Vertex) -> Reason {
     if 256 <= n.0 {
         return of_node(reasons::PAST_THE_TABLE, n);
     }
-    of_node(reasons::EMPTY_SLOT, n)
+    if states::is_no_node(nodes::seen_state(t, n)) {
+        return of_node(reasons::EMPTY_SLOT, n);
+    }
+    if checks::is_no_vertex(v) {
+        return of_node(reasons::NO_VERTEX, n);
+    }
+    of_node(reasons::NO_VIRTUAL_VERTEX, n)
 }
 
 // 4.

@@ -13,15 +13,16 @@ fn write_lines(lines: &mut [u8], pos: usize, records: &[u8], n: usize) -> usize 
     text::write_records(lines, pos, &records[0..n])
 }
 
-// The number of the end record, which is the last of the answers: two bytes, of which a refusal fills one.
-fn end_number(answers: &[u8], written: usize) -> u16 {
-    if written < 2 {
+// A number of the end record, which is the last of the answers: of two bytes, of which refusals and sides fill one, so many bytes
+// before its end.
+fn end_number(answers: &[u8], written: usize, before: usize) -> u16 {
+    if written < before {
         return 0;
     }
-    if answers.len() < written {
+    if answers.len() <= written - before {
         return 0;
     }
-    wide(answers[written - 2])
+    wide(answers[written - before])
 }
 
 fn wide(byte: u8) -> u16 {
@@ -37,11 +38,16 @@ fn write_answers(
     answers: &[u8],
     written: usize,
 ) -> usize {
-    let number = end_number(answers, written);
+    let number = end_number(answers, written, 4);
     if number == 0 {
         return write_lines(lines, pos, answers, written);
     }
-    crate::explaining::write_refusal(lines, pos, t, request, number)
+    let side = end_number(answers, written, 2);
+    let reason = crate::explaining::why(t, request, number, side);
+    if reason.line == crate::reason::UNKNOWN {
+        return write_lines(lines, pos, answers, written);
+    }
+    text::write_reason(lines, pos, reason.line, reason.a, reason.b, reason.c, side)
 }
 
 // The request that stands first on the tape, in so many bytes, and what it answers.
@@ -94,7 +100,7 @@ fn list(t: &Table) -> bool {
     }
     match primal::list(t, out) {
         Answer::Done(written) => entries(out, written),
-        Answer::Refused(_) => false,
+        Answer::Refused(_, _) => false,
     }
 }
 

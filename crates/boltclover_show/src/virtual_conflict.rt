@@ -10,18 +10,6 @@ use slot::Node;
 use table::Table;
 use text::reasons;
 
-fn no_node_or_vertex(t: &Table, c: VirtualConflict) -> Reason {
-    let node = c.node;
-    let vertex = c.vertex;
-    if states::is_no_node(nodes::seen_state(t, node)) {
-        return node::no_node(node);
-    }
-    if node::is_none(vertex) {
-        return of_node(reasons::NO_VERTEX, node);
-    }
-    of_node(reasons::NO_VIRTUAL_VERTEX, node)
-}
-
 fn not_growing(t: &Table, node: Node) -> Reason {
     if states::is_minus(nodes::seen_state(t, node)) {
         return of_node(reasons::SHRINKS, node);
@@ -32,8 +20,9 @@ fn not_growing(t: &Table, node: Node) -> Reason {
 pub fn why(t: &Table, c: VirtualConflict, number: u16) -> Reason {
     let node = c.node;
     let touch = c.touch;
+    let vertex = c.vertex;
     match number {
-        3 => no_node_or_vertex(t, c),
+        3 => node::no_side(t, node, vertex),
         4 => node::not_outer(t, node),
         6 => node::touch(t, node, touch),
         7 => not_growing(t, node),

@@ -9,6 +9,8 @@ use Rattle.refusal.specs.declared.Answer.{Answer}
 use Rattle.refusal.specs.declared.Answer.the-variants as A
 use Rattle.refusal.specs.declared.Verdict.{Verdict}
 use Rattle.refusal.specs.declared.Verdict.the-variants as W
+use Rattle.refusal.specs.declared.Side.{Side}
+use Rattle.refusal.specs.declared.Side.the-variants.{Neither}
 use Rattle.refusal.specs.declared.Refusal.{Refusal}
 use Rattle.refusal.specs.declared.Refusal.the-variants.{NoCommandRoom}
 use Rattle.record.specs.declared.request.Request.the-variants as Q
@@ -22,8 +24,8 @@ use Rattle.outcome.specs.Handled.{Outcome, laterVerdict}
 -- ---- the outcome by the verdict
 
 module _ (act : Act) (pos : ℕ) (words bytes : List ℕ) where
-  pub refused-by : (v : Verdict) (n : Refusal) → v ≡ W.Refused n → Outcome v act pos words bytes (A.Refused n) words bytes
-  refused-by v n e = rw e (refl, refl, refl, refl)
+  pub refused-by : (v : Verdict) (n : Refusal) (s : Side) → v ≡ W.Refused n s → Outcome v act pos words bytes (A.Refused n s) words bytes
+  refused-by v n s e = rw e (refl, refl, refl, refl, refl)
 
   pub accepted-by :
       (v : Verdict) (p : ℕ) (words′ bytes′ : List ℕ)
@@ -40,7 +42,7 @@ module _ (act : Act) (pos : ℕ) (words bytes : List ℕ) where
 
 -- 9, then the checks of the nodes
 unfoldable pub judged : ℕ → Verdict → Verdict
-judged room v = pick (lacksCommandRoom room) (W.Refused NoCommandRoom) v
+judged room v = pick (lacksCommandRoom room) (W.Refused NoCommandRoom Neither) v
 
 module _ (t : Table) (room : ℕ) where
   pub conflict-judged : (c : Conflict) → laterVerdict (Q.Conflict c) t room ≡ judged room (firstOf (conflictNodeChecks t c))
@@ -55,7 +57,7 @@ module _ (t : Table) (room : ℕ) where
   unfolding laterVerdict judged
   expansion-judged e = refl
 
-pub judged-no-room : (room m : ℕ) (v : Verdict) → m ≡ room → m < 4096 → judged room v ≡ W.Refused NoCommandRoom
+pub judged-no-room : (room m : ℕ) (v : Verdict) → m ≡ room → m < 4096 → judged room v ≡ W.Refused NoCommandRoom Neither
 unfolding judged
 judged-no-room room m v f h = let h′ : room < 4096 = rw f at h in rw (lt-ltb room 4096 h′)
 

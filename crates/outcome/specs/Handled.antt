@@ -8,17 +8,17 @@ use Rattle.table.specs.Words.{tableOf}
 use Rattle.refusal.specs.declared.Answer.{Answer}
 use Rattle.refusal.specs.declared.Verdict.{Verdict}
 use Rattle.refusal.specs.declared.Verdict.the-variants as W
-use Rattle.refusal.specs.Refusal.{numberOf, answerNumber, answerWritten}
+use Rattle.refusal.specs.Refusal.{numberOf, sideNumber, answerNumber, answerSide, answerWritten}
 use Rattle.record.specs.declared.request.Request.{Request}
 use Rattle.rules.specs.Act.{Act, worldOf, run}
 use Rattle.rules.specs.Refusals.{Check, firstOf}
 use Rattle.rules.specs.Calls.{actOf, checksOf}
 
--- refused: the refusal's number, nothing written, and words and bytes as they were; accepted: 0, the rule done to table and bytes from
--- a position on, and the position after what was written
+-- refused: the refusal's number and side, nothing written, and words and bytes as they were; accepted: 0, the rule done to table and
+-- bytes from a position on, and the position after what was written
 abbrev pub Outcome : Verdict → Act → ℕ → List ℕ → List ℕ → Answer → List ℕ → List ℕ → Type 0
-Outcome (W.Refused n) act pos words bytes r words′ bytes′ =
-    (answerNumber r ≡ numberOf n) × (answerWritten r ≡ 0) × (words′ ≡ words) × (bytes′ ≡ bytes)
+Outcome (W.Refused n s) act pos words bytes r words′ bytes′ =
+    (answerNumber r ≡ numberOf n) × (answerSide r ≡ sideNumber s) × (answerWritten r ≡ 0) × (words′ ≡ words) × (bytes′ ≡ bytes)
 Outcome W.Accepted act pos words bytes r words′ bytes′ =
     (answerNumber r ≡ 0) × (worldOf words′ bytes′ (answerWritten r) ≡ run (worldOf words bytes pos) act)
 

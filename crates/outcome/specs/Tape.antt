@@ -2,9 +2,8 @@
 use mathlib.Core.Path.{_≡_}
 use mathlib.Core.List.{List}
 use Prim.Native.Nat.{ℕ}
-use Rattle.refusal.specs.declared.Answer.the-variants as A
 use Rattle.refusal.specs.declared.Refusal.the-variants.{NotSound}
-use Rattle.refusal.specs.Refusal.{answerNumber}
+use Rattle.refusal.specs.Refusal.{numberOf}
 use Rattle.rules.specs.Act.{worldOf}
 use Rattle.rules.specs.Run.{Ran, unsound, ran, stopNumber, runTape}
 
@@ -13,7 +12,7 @@ use Rattle.rules.specs.Run.{Ran, unsound, ran, stopNumber, runTape}
 abbrev pub HandsOut : Ran → List ℕ → List ℕ → List ℕ → ℕ → ℕ → ℕ → ℕ → List ℕ → List ℕ → List ℕ → Type 0
 HandsOut unsound words bytes tape stop refusal handled written rest words′ bytes′ =
     (stop ≡ 0)
-    × (refusal ≡ answerNumber (A.Refused NotSound))
+    × (refusal ≡ numberOf NotSound)
     × (handled ≡ 0)
     × (written ≡ 0)
     × (rest ≡ tape)
@@ -21,7 +20,7 @@ HandsOut unsound words bytes tape stop refusal handled written rest words′ byt
     × (bytes′ ≡ bytes)
 HandsOut (ran e) words bytes tape stop refusal handled written rest words′ bytes′ =
     (stop ≡ stopNumber (e .stop))
-    × (refusal ≡ answerNumber (A.Done written))
+    × (refusal ≡ 0)
     × (handled ≡ e .progress .handled)
     × (rest ≡ e .progress .rest)
     × (worldOf words′ bytes′ written ≡ e .progress .world)

@@ -12,7 +12,7 @@ pub const COMMAND_ROOM: usize = 4096;
 
 pub const ENTRY_ROOM: usize = 16;
 
-pub const RUN_ROOM: usize = COMMAND_ROOM + 6;
+pub const RUN_ROOM: usize = COMMAND_ROOM + 8;
 
 // The bytes from a position on.
 pub fn room(out: &[u8], pos: usize) -> usize

@@ -8,6 +8,7 @@ use slot::Vertex;
 ghost use mathlib.Core.Path.{_≡_};
 ghost use mathlib.Core.List.{[], _∷_};
 ghost use Rattle.record.specs.Records.{conflictFrom, virtualFrom, expansionFrom};
+ghost use Rattle.refusal.specs.Refusal.{answerSide};
 ghost use Rattle.outcome.specs.Told.{Told};
 
 pub fn conflict(
@@ -56,9 +57,23 @@ pub fn tell(answer: Answer, written: &mut usize) -> u16
             *written = bytes;
             0
         }
-        Answer::Refused(refusal) => {
+        Answer::Refused(refusal, _) => {
             *written = 0;
             refusal::number(refusal)
+        }
+    }
+}
+
+// Its side: 0 where it was done or the refusal names none.
+pub fn tell_side(answer: Answer, side: &mut u16)
+    ensures { λ _. ⌜ now (side .exit) ≡ answerSide answer ⌝ }
+{
+    match answer {
+        Answer::Done(_) => {
+            *side = 0;
+        }
+        Answer::Refused(_, named) => {
+            *side = refusal::side_number(named);
         }
     }
 }

@@ -17,7 +17,7 @@ use Rattle.record.specs.declared.request.Reading.the-variants as G
 use Rattle.record.specs.Reading as reading
 use Rattle.rules.specs.Act.{World, worldOf}
 use Rattle.rules.specs.Sound.{sound}
-use Rattle.rules.specs.Run.{Stop, tapeEmpty, allowanceUsed, outputFull, badRecord, stopNumber, Progress, stopped, room, served, began, runFrom, runTape}
+use Rattle.rules.specs.Run.{Stop, tapeEmpty, allowanceUsed, outputFull, badRecord, stopNumber, Progress, stopped, room, served, began, runFrom, runTape, runRoom}
 use Rattle.theorems_soundness.proofs.Reflect.{same-or-not}
 use Rattle.tape.specs.declared.next.Next.{Next}
 use Rattle.tape.specs.declared.next.Next.the-variants as N
@@ -39,29 +39,29 @@ module _ (w : World) (rest : List ℕ) (handled : ℕ) where
     unfolding runFrom
     spent k e = rw (e, ne-eqb (length rest) 0 more)
 
-    full : (k m : ℕ) → (k ≡ 0 → ⊥) → m ≡ room w → m < 4102 → runFrom k (stands w rest handled) ≡ stopped outputFull (stands w rest handled)
+    full : (k m : ℕ) → (k ≡ 0 → ⊥) → m ≡ room w → m < runRoom → runFrom k (stands w rest handled) ≡ stopped outputFull (stands w rest handled)
     unfolding runFrom
     full zero m h e q = absurd (h refl)
-    full (suc k) m h e q = let q′ : room w < 4102 = rw e at q in rw (ne-eqb (length rest) 0 more, lt-ltb (room w) 4102 q′)
+    full (suc k) m h e q = let q′ : room w < runRoom = rw e at q in rw (ne-eqb (length rest) 0 more, lt-ltb (room w) runRoom q′)
 
     bad :
         (k m : ℕ) (n : Refusal)
         → (k ≡ 0 → ⊥)
         → m ≡ room w
-        → 4102 ≤ m
+        → runRoom ≤ m
         → reading.read rest ≡ G.Refused n
         → runFrom k (stands w rest handled) ≡ stopped badRecord (stands w rest handled)
     unfolding runFrom
     bad zero m n h e q r = absurd (h refl)
     bad (suc k) m n h e q r =
-        let q′ : 4102 ≤ room w = rw e at q in
-        rw (ne-eqb (length rest) 0 more, le-ltb (room w) 4102 q′, r)
+        let q′ : runRoom ≤ room w = rw e at q in
+        rw (ne-eqb (length rest) 0 more, le-ltb (room w) runRoom q′, r)
 
     one-more :
         (k m size : ℕ) (q : Request) (w₁ : World) (rest₁ : List ℕ)
         → (k ≡ 0 → ⊥)
         → m ≡ room w
-        → 4102 ≤ m
+        → runRoom ≤ m
         → reading.read rest ≡ G.Request q size
         → w₁ ≡ served q w
         → rest₁ ≡ drop size rest
@@ -69,8 +69,8 @@ module _ (w : World) (rest : List ℕ) (handled : ℕ) where
     unfolding runFrom
     one-more zero m size q w₁ rest₁ h e l r u v = absurd (h refl)
     one-more (suc k) m size q w₁ rest₁ h e l r u v =
-        let l′ : 4102 ≤ room w = rw e at l in
-        rw (ne-eqb (length rest) 0 more, le-ltb (room w) 4102 l′, r, u, v, fewer k)
+        let l′ : runRoom ≤ room w = rw e at l in
+        rw (ne-eqb (length rest) 0 more, le-ltb (room w) runRoom l′, r, u, v, fewer k)
 
 -- ---- what comes next, told by `what_next`, and what the run does then
 
@@ -82,7 +82,7 @@ Follows (N.Record q size left) k w rest handled =
     × ((w₁ : World) (rest₁ : List ℕ) → w₁ ≡ served q w → rest₁ ≡ drop size rest → runFrom left (stands w₁ rest₁ (handled + 1)) ≡ runFrom k (stands w rest handled))
 
 module _ (w : World) (rest : List ℕ) (handled k m : ℕ) (e : m ≡ room w) where
-  by-reading : (length rest ≡ 0 → ⊥) → (k ≡ 0 → ⊥) → 4102 ≤ m → (g : Reading) → reading.read rest ≡ g → Follows (nextOf rest k m) k w rest handled
+  by-reading : (length rest ≡ 0 → ⊥) → (k ≡ 0 → ⊥) → runRoom ≤ m → (g : Reading) → reading.read rest ≡ g → Follows (nextOf rest k m) k w rest handled
   by-reading more h fits (G.Request q size) r =
       rw (sym (next.one rest k m more h fits (reading.read rest) refl q size r))
       (omega arith, r, λ w₁ rest₁ d f. one-more w rest handled more k m size q w₁ rest₁ h e fits r d f)
@@ -91,7 +91,7 @@ module _ (w : World) (rest : List ℕ) (handled k m : ℕ) (e : m ≡ room w) wh
 
   by-room : (length rest ≡ 0 → ⊥) → (k ≡ 0 → ⊥) → Follows (nextOf rest k m) k w rest handled
   by-room more h =
-      elim (decLt m 4102) [
+      elim (decLt m runRoom) [
         | yes q ↦ rw (sym (next.full rest k m more h q)) (outputFull, refl, full w rest handled more k m h e q)
         | no q ↦ by-reading more h (omega arith) (reading.read rest) refl
       ]

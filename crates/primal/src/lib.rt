@@ -10,6 +10,7 @@ use record::Request;
 use record::VirtualConflict;
 use refusal::Answer;
 use refusal::Refusal;
+use refusal::Side;
 use table::Table;
 use tape::next::Next;
 ghost use mathlib.Core.Path.{_≡_};
@@ -35,7 +36,7 @@ pub fn reset(t: &mut Table) -> Answer
     ensures { λ r. ⌜ Reset (now (t .entry)) r (now (t .exit)) ⌝ }
 {
     if !sound::is_sound(t) {
-        return Answer::Refused(Refusal::NotSound);
+        return Answer::Refused(Refusal::NotSound, Side::Neither);
     }
     table_making::resetting::reset(t);
     Answer::Done(0)
@@ -53,7 +54,7 @@ pub fn conflict(t: &mut Table, out: &mut [u8], request: Conflict) -> Answer
     ensures { λ r. ⌜ Call (Q.Conflict request) (now (t .entry)) (now (out .entry)) r (now (t .exit)) (now (out .exit)) ⌝ }
 {
     if !sound::is_sound(t) {
-        return Answer::Refused(Refusal::NotSound);
+        return Answer::Refused(Refusal::NotSound, Side::Neither);
     }
     requests::conflicts::conflict(t, out, 0, request)
 }
@@ -62,7 +63,7 @@ pub fn virtual_conflict(t: &mut Table, out: &mut [u8], request: VirtualConflict)
     ensures { λ r. ⌜ Call (Q.VirtualConflict request) (now (t .entry)) (now (out .entry)) r (now (t .exit)) (now (out .exit)) ⌝ }
 {
     if !sound::is_sound(t) {
-        return Answer::Refused(Refusal::NotSound);
+        return Answer::Refused(Refusal::NotSound, Side::Neither);
     }
     requests::virtual_conflicts::virtual_conflict(t, out, 0, request)
 }
@@ -71,7 +72,7 @@ pub fn expand(t: &mut Table, out: &mut [u8], request: Expansion) -> Answer
     ensures { λ r. ⌜ Call (Q.Expansion request) (now (t .entry)) (now (out .entry)) r (now (t .exit)) (now (out .exit)) ⌝ }
 {
     if !sound::is_sound(t) {
-        return Answer::Refused(Refusal::NotSound);
+        return Answer::Refused(Refusal::NotSound, Side::Neither);
     }
     request_expansion::expand(t, out, 0, request)
 }
@@ -81,7 +82,7 @@ pub fn list(t: &Table, out: &mut [u8]) -> Answer
     ensures { λ r. ⌜ Call Q.List (now (t .entry)) (now (out .entry)) r (now (t .entry)) (now (out .exit)) ⌝ }
 {
     if !sound::is_sound(t) {
-        return Answer::Refused(Refusal::NotSound);
+        return Answer::Refused(Refusal::NotSound, Side::Neither);
     }
     request_listing::list(t, out, 0)
 }

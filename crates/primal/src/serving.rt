@@ -4,22 +4,27 @@ use record::Expansion;
 use record::Request;
 use record::VirtualConflict;
 use refusal::Answer;
+use refusal::Side;
 use table::Table;
 ghost use mathlib.Core.Path.{_≡_};
-ghost use Rattle.refusal.specs.Refusal.{answerNumber};
 ghost use Rattle.record.specs.declared.request.Request.the-variants as Q;
-ghost use Rattle.record.specs.declared.answer.Record.the-variants as R;
 ghost use Rattle.record.specs.Records.{answerBytes};
 ghost use Rattle.record.specs.Writing.{outOf, written};
-ghost use Rattle.primal.specs.Serving.{posAfter, Serves};
+ghost use Rattle.rules.specs.Calls.{endRecord};
+ghost use Rattle.primal.specs.Serving.{posAfter, verdictTold, Serves};
 
-// The end record: 0, or the refusal's number.
+// The end record: 0, or the refusal's number and its side.
 fn end(out: &mut [u8], pos: usize, answer: Answer) -> usize
-    ensures { λ r. ⌜ outOf (now (out .exit)) r ≡ written (outOf (now (out .entry)) (posAfter pos answer)) (answerBytes (R.End (answerNumber answer))) ⌝ }
+    ensures { λ r. ⌜ outOf (now (out .exit)) r ≡ written (outOf (now (out .entry)) (posAfter pos answer)) (answerBytes (endRecord (verdictTold answer))) ⌝ }
 {
     match answer {
-        Answer::Done(after) => record_answers::end(out, after, 0),
-        Answer::Refused(refusal) => record_answers::end(out, pos, refusal::number(refusal)),
+        Answer::Done(after) => record_answers::end(out, after, 0, Side::Neither),
+        Answer::Refused(refusal, side) => record_answers::end(
+            out,
+            pos,
+            refusal::number(refusal),
+            side,
+        ),
     }
 }
 

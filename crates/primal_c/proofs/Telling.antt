@@ -1,5 +1,5 @@
 -- An answer told in numbers keeps the promise of the call that gave it.
-use mathlib.Core.Path.{_≡_, refl, ap, _∙_}
+use mathlib.Core.Path.{_≡_, refl, sym, ap, _∙_}
 use mathlib.Core.List.{List, []}
 use mathlib.Core.Bool.{Bool, true, false}
 use Prim.Native.Nat.{ℕ}
@@ -8,30 +8,30 @@ use Rattle.lists.specs.Choice.{pick}
 use Rattle.table.specs.Words.{tableOf}
 use Rattle.table.specs.Making.{beginFits, fresh, Made}
 use Rattle.refusal.specs.declared.Answer.{Answer}
-use Rattle.refusal.specs.declared.Answer.the-variants.{Done, Refused}
 use Rattle.refusal.specs.declared.Refusal.the-variants.{BadBegin}
 use Rattle.refusal.specs.declared.Verdict.{Verdict}
 use Rattle.refusal.specs.declared.Verdict.the-variants as W
-use Rattle.refusal.specs.Refusal.{numberOf, answerNumber, answerWritten}
+use Rattle.refusal.specs.Refusal.{numberOf, answerNumber, answerSide, answerWritten}
+use Rattle.refusal.proofs.Numbers.{is-done}
 use Rattle.record.specs.declared.request.Request.{Request}
 use Rattle.record.specs.declared.request.Request.the-variants as Q
 use Rattle.record.specs.Writing.{writeAll}
 use Rattle.rules.specs.Act.{Act, World, worldOf, run, change}
-use Rattle.rules.specs.Calls.{actOf, verdict}
+use Rattle.rules.specs.Calls.{actOf, verdict, verdictSide}
 use Rattle.rules.specs.Run.{Ran, unsound, ran, runTape}
 use Rattle.outcome.specs.Handled.{Outcome}
 use Rattle.outcome.specs.Tape.{HandsOut, Tape}
 use Rattle.outcome.specs.Call.{Call, Reset}
 use Rattle.outcome.specs.Told.{Told}
-use Rattle.outcome.specs.Numbered.{Numbered, Called, WasReset, WasMade, RanTape, Run}
+use Rattle.outcome.specs.Numbered.{Numbered, Called, CalledWithSide, WasReset, WasMade, RanTape, Run}
 
 told-by :
     (v : Verdict) (act : Act) (words bytes : List ℕ) (a : Answer) (words′ bytes′ : List ℕ) (number written : ℕ)
     → Outcome v act 0 words bytes a words′ bytes′
     → Told a number written
     → Numbered v act words bytes number written words′ bytes′
-told-by (W.Refused n) act words bytes a words′ bytes′ number written o p =
-    (p .0 ∙ o .0, p .1 ∙ o .1, o .2, o .3)
+told-by (W.Refused n s) act words bytes a words′ bytes′ number written o p =
+    (p .0 ∙ o .0, p .1 ∙ o .2, o .3, o .4)
 told-by W.Accepted act words bytes a words′ bytes′ number written o p = (p .0 ∙ o .0, rw (p .1) (o .1))
 
 pub told :
@@ -51,6 +51,28 @@ pub told-as :
     → Called (f r′) words bytes number written words′ bytes′
 told-as f r r′ e words bytes a words′ bytes′ number written p q = rw e at (told (f r) words bytes a words′ bytes′ number written p q)
 
+-- .. and with its side
+side-by :
+    (v : Verdict) (act : Act) (words bytes : List ℕ) (a : Answer) (words′ bytes′ : List ℕ)
+    → Outcome v act 0 words bytes a words′ bytes′
+    → answerSide a ≡ verdictSide v
+side-by (W.Refused n s) act words bytes a words′ bytes′ o = o .1
+side-by W.Accepted act words bytes a words′ bytes′ o = ap answerSide (is-done a (o .0))
+
+pub told-with-side :
+    {A : Type 0} (f : A → Request) (r r′ : A)
+    → r ≡ r′
+    → (words bytes : List ℕ) (a : Answer) (words′ bytes′ : List ℕ) (number side written : ℕ)
+    → Call (f r) words bytes a words′ bytes′
+    → Told a number written
+    → side ≡ answerSide a
+    → CalledWithSide (f r′) words bytes number side written words′ bytes′
+told-with-side f r r′ e words bytes a words′ bytes′ number side written p q s =
+    let told : verdict (f r′) (tableOf words) (length bytes) ≡ verdict (f r) (tableOf words) (length bytes) = rw e in (
+      told-as f r r′ e words bytes a words′ bytes′ number written p q,
+      s ∙ side-by (verdict (f r) (tableOf words) (length bytes)) (actOf (f r)) words bytes a words′ bytes′ p ∙ ap verdictSide (sym told),
+    )
+
 -- reset writes nothing: the position stays at 0
 reset-written :
     (words words′ : List ℕ) (n : ℕ)
@@ -64,7 +86,7 @@ told-reset-by :
     → Outcome v (actOf Q.Reset) 0 words [] a words′ []
     → number ≡ answerNumber a
     → Numbered v (actOf Q.Reset) words [] number 0 words′ []
-told-reset-by (W.Refused n) words a words′ number o p = (p ∙ o .0, refl, o .2, o .3)
+told-reset-by (W.Refused n s) words a words′ number o p = (p ∙ o .0, refl, o .3, o .4)
 told-reset-by W.Accepted words a words′ number o p =
     (p ∙ o .0, reset-written words words′ (answerWritten a) (o .1))
 
@@ -79,11 +101,11 @@ made-by :
     (fits : Bool) (before after : List ℕ) (b : ℕ) (a : Answer) (number : ℕ)
     → pick fits
     ((answerNumber a ≡ 0) × (answerWritten a ≡ 0) × (tableOf after ≡ fresh b))
-    ((answerNumber a ≡ numberOf BadBegin) × (answerWritten a ≡ 0) × (after ≡ before))
+    ((answerNumber a ≡ numberOf BadBegin) × (answerSide a ≡ 0) × (answerWritten a ≡ 0) × (after ≡ before))
     → number ≡ answerNumber a
-    → pick fits ((number ≡ answerNumber (Done 0)) × (tableOf after ≡ fresh b)) ((number ≡ answerNumber (Refused BadBegin)) × (after ≡ before))
+    → pick fits ((number ≡ 0) × (tableOf after ≡ fresh b)) ((number ≡ numberOf BadBegin) × (after ≡ before))
 made-by true before after b a number m p = (p ∙ m .0, m .2)
-made-by false before after b a number m p = (p ∙ m .0, m .2)
+made-by false before after b a number m p = (p ∙ m .0, m .3)
 
 pub told-made :
     (before after : List ℕ) (b : ℕ) (a : Answer) (number : ℕ)

@@ -8,7 +8,7 @@ ghost use Rattle.table.specs.Words.{tableOf};
 ghost use Rattle.record.specs.Records.{conflictFrom, virtualFrom, expansionFrom};
 ghost use Rattle.record.specs.declared.request.Request.the-variants as Q;
 ghost use Rattle.rules.specs.Sound.{sound};
-ghost use Rattle.outcome.specs.Numbered.{Called, WasReset, WasMade, oneIf, Run};
+ghost use Rattle.outcome.specs.Numbered.{Called, CalledWithSide, WasReset, WasMade, oneIf, Run};
 
 #[no_mangle]
 pub extern "C" fn boltclover_make(table: &mut Table, begin: u16) -> u16
@@ -44,11 +44,13 @@ pub extern "C" fn boltclover_conflict(
     vertex_2: u32,
     out: &mut [u8],
     written: &mut usize,
+    side: &mut u16,
 ) -> u16
-    ensures { λ r. ⌜ Called (Q.Conflict (conflictFrom (node_1 ∷ node_2 ∷ touch_1 ∷ touch_2 ∷ vertex_1 ∷ vertex_2 ∷ []))) (now (table .entry)) (now (out .entry)) r (now (written .exit)) (now (table .exit)) (now (out .exit)) ⌝ }
+    ensures { λ r. ⌜ CalledWithSide (Q.Conflict (conflictFrom (node_1 ∷ node_2 ∷ touch_1 ∷ touch_2 ∷ vertex_1 ∷ vertex_2 ∷ []))) (now (table .entry)) (now (out .entry)) r (now (side .exit)) (now (written .exit)) (now (table .exit)) (now (out .exit)) ⌝ }
 {
     let request = numbered::conflict(node_1, node_2, touch_1, touch_2, vertex_1, vertex_2);
     let answer = primal::conflict(table, out, request);
+    numbered::tell_side(answer, side);
     numbered::tell(answer, written)
 }
 
@@ -61,11 +63,13 @@ pub extern "C" fn boltclover_virtual_conflict(
     virtual_vertex: u32,
     out: &mut [u8],
     written: &mut usize,
+    side: &mut u16,
 ) -> u16
-    ensures { λ r. ⌜ Called (Q.VirtualConflict (virtualFrom (node ∷ touch ∷ vertex ∷ «virtual_vertex» ∷ []))) (now (table .entry)) (now (out .entry)) r (now (written .exit)) (now (table .exit)) (now (out .exit)) ⌝ }
+    ensures { λ r. ⌜ CalledWithSide (Q.VirtualConflict (virtualFrom (node ∷ touch ∷ vertex ∷ «virtual_vertex» ∷ []))) (now (table .entry)) (now (out .entry)) r (now (side .exit)) (now (written .exit)) (now (table .exit)) (now (out .exit)) ⌝ }
 {
     let request = numbered::virtual_conflict(node, touch, vertex, virtual_vertex);
     let answer = primal::virtual_conflict(table, out, request);
+    numbered::tell_side(answer, side);
     numbered::tell(answer, written)
 }
 

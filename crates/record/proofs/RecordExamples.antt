@@ -2,6 +2,7 @@
 use mathlib.Core.Path.{_≡_, refl}
 use mathlib.Core.List.{List, [], _∷_, _++_}
 use Prim.Native.Nat.{ℕ}
+use Rattle.refusal.specs.declared.Side.the-variants.{Neither, First, Second}
 use Rattle.record.specs.declared.request.Request.{Request}
 use Rattle.record.specs.declared.request.Request.the-variants as Q
 use Rattle.record.specs.declared.request.Reading.the-variants as R
@@ -87,24 +88,24 @@ bad-told = (refl, refl, refl)
 
 -- ---- answers
 
--- "For conflict 0, 1 (touches 0, 1, vertices 10, 11), then list, it writes exactly, in hex:"
+-- "For conflict 0, 1 (touches 0, 1, vertices 10, 11), then list, it writes exactly, in hex:", with the longer end records of ticket 1
 abbrev answers : List Record
 answers =
     A.Speed (nodeOf 0) S.Stay
     ∷ A.Speed (nodeOf 1) S.Stay
-    ∷ A.End 0
+    ∷ A.End 0 Neither
     ∷ A.Pair (record { node = nodeOf 0; peer = nodeOf 1; through = vertexOf 10; «peer_through» = vertexOf 11 })
-    ∷ A.End 0
+    ∷ A.End 0 Neither
     ∷ []
 
 printed :
     bytesOf answers
     ≡ 0x06 ∷ 0x00 ∷ 0x10 ∷ 0x00 ∷ 0x00 ∷ 0x00 ∷ 0x00 ∷ 0x00
     ∷ 0x06 ∷ 0x00 ∷ 0x10 ∷ 0x00 ∷ 0x01 ∷ 0x00 ∷ 0x00 ∷ 0x00
-    ∷ 0x04 ∷ 0x00 ∷ 0x13 ∷ 0x00 ∷ 0x00 ∷ 0x00
+    ∷ 0x06 ∷ 0x00 ∷ 0x13 ∷ 0x00 ∷ 0x00 ∷ 0x00 ∷ 0x00 ∷ 0x00
     ∷ 0x0e ∷ 0x00 ∷ 0x14 ∷ 0x00 ∷ 0x00 ∷ 0x00 ∷ 0x01 ∷ 0x00
     ∷ 0x0a ∷ 0x00 ∷ 0x00 ∷ 0x00 ∷ 0x0b ∷ 0x00 ∷ 0x00 ∷ 0x00
-    ∷ 0x04 ∷ 0x00 ∷ 0x13 ∷ 0x00 ∷ 0x00 ∷ 0x00
+    ∷ 0x06 ∷ 0x00 ∷ 0x13 ∷ 0x00 ∷ 0x00 ∷ 0x00 ∷ 0x00 ∷ 0x00
     ∷ []
 unfolding bytesOf answerBytes
 printed = refl
@@ -118,6 +119,16 @@ commands :
     ∷ []
 unfolding bytesOf answerBytes
 commands = refl
+
+-- "0 or the refusal", then "the side as its last two bytes"
+ends :
+    bytesOf (A.End 3 First ∷ A.End 6 Second ∷ A.End 12 Neither ∷ [])
+    ≡ 6 ∷ 0 ∷ 19 ∷ 0 ∷ 3 ∷ 0 ∷ 1 ∷ 0
+    ∷ 6 ∷ 0 ∷ 19 ∷ 0 ∷ 6 ∷ 0 ∷ 2 ∷ 0
+    ∷ 6 ∷ 0 ∷ 19 ∷ 0 ∷ 12 ∷ 0 ∷ 0 ∷ 0
+    ∷ []
+unfolding bytesOf answerBytes
+ends = refl
 
 virtual-pair :
     answerBytes (A.VirtualPair (record { node = nodeOf 1; through = vertexOf 2; «virtual_vertex» = vertexOf 99 }))

@@ -13,6 +13,7 @@ use Rattle.lists.specs.Choice.{pick}
 use Rattle.lists.specs.Stores.{stores}
 use Rattle.lists.proofs.Stores.{length-stores, stores-join}
 use Rattle.refusal.specs.declared.Refusal.the-variants.{NoRecordRoom}
+use Rattle.refusal.specs.declared.Side.the-variants.{Neither}
 use Rattle.refusal.specs.declared.Answer.the-variants.{Done, Refused}
 use Rattle.record.specs.declared.answer.Record.{Record}
 use Rattle.record.specs.declared.request.Request.{Request}
@@ -76,13 +77,13 @@ module _ (l : List ℕ) (p : ℕ) (bs : List ℕ) where
 
   -- a call answers by the position that writing left
   module _ (l₁ : List ℕ) (q : ℕ) (n : 0 < length bs) where
-    refused-by : (t : Bool) → outOf l₁ q ≡ pick t (outOf l p) (outOf (placed l p bs) (p + length bs)) → q ≡ p → wroteOf l₁ (Refused NoRecordRoom) ≡ pick t (wroteOf l (Refused NoRecordRoom)) (wroteOf (placed l p bs) (Done (length bs)))
-    refused-by true e h = ap (λ (o : Out). wroteOf (o .buf) (Refused NoRecordRoom)) e
+    refused-by : (t : Bool) → outOf l₁ q ≡ pick t (outOf l p) (outOf (placed l p bs) (p + length bs)) → q ≡ p → wroteOf l₁ (Refused NoRecordRoom Neither) ≡ pick t (wroteOf l (Refused NoRecordRoom Neither)) (wroteOf (placed l p bs) (Done (length bs)))
+    refused-by true e h = ap (λ (o : Out). wroteOf (o .buf) (Refused NoRecordRoom Neither)) e
     refused-by false e h =
         let f : q ≡ p + length bs = ap (λ (o : Out). o .pos) e in
         absurd (omega arith)
 
-    done-by : (t : Bool) → outOf l₁ q ≡ pick t (outOf l p) (outOf (placed l p bs) (p + length bs)) → (q ≡ p → ⊥) → wroteOf l₁ (Done (q - p)) ≡ pick t (wroteOf l (Refused NoRecordRoom)) (wroteOf (placed l p bs) (Done (length bs)))
+    done-by : (t : Bool) → outOf l₁ q ≡ pick t (outOf l p) (outOf (placed l p bs) (p + length bs)) → (q ≡ p → ⊥) → wroteOf l₁ (Done (q - p)) ≡ pick t (wroteOf l (Refused NoRecordRoom Neither)) (wroteOf (placed l p bs) (Done (length bs)))
     done-by true e h = absurd (h (ap (λ (o : Out). o .pos) e))
     done-by false e h =
         let f : q ≡ p + length bs = ap (λ (o : Out). o .pos) e in
@@ -97,7 +98,7 @@ module _ (l : List ℕ) (p : ℕ) (bs : List ℕ) where
     unfolding written
     written-pos = stays-or-moves (ltb (length l - p) (length bs))
 
-    pub wrote-none : outOf l₁ q ≡ written (outOf l p) bs → q ≡ p → wroteOf l₁ (Refused NoRecordRoom) ≡ wrote (outOf l p) bs
+    pub wrote-none : outOf l₁ q ≡ written (outOf l p) bs → q ≡ p → wroteOf l₁ (Refused NoRecordRoom Neither) ≡ wrote (outOf l p) bs
     unfolding written wrote
     wrote-none = refused-by (ltb (length l - p) (length bs))
 

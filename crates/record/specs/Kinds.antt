@@ -24,7 +24,7 @@ numberOfKind K.Pair = 20
 numberOfKind K.VirtualPair = 21
 numberOfKind K.Other = 0
 
--- the bytes of each field: two for a node, a speed and a number given back, four for a vertex
+-- the bytes of each field: two for a node, a speed, a number given back and a side, four for a vertex
 abbrev pub widths : Kind → List ℕ
 widths K.Conflict = 2 ∷ 2 ∷ 2 ∷ 2 ∷ 4 ∷ 4 ∷ []
 widths K.VirtualConflict = 2 ∷ 2 ∷ 4 ∷ 4 ∷ []
@@ -34,7 +34,7 @@ widths K.List = []
 widths K.Speed = 2 ∷ 2 ∷ []
 widths K.Create = 2 ∷ []
 widths K.Expand = 2 ∷ []
-widths K.End = 2 ∷ []
+widths K.End = 2 ∷ 2 ∷ []
 widths K.Pair = 2 ∷ 2 ∷ 4 ∷ 4 ∷ []
 widths K.VirtualPair = 2 ∷ 4 ∷ 4 ∷ []
 widths K.Other = []

@@ -4,6 +4,7 @@ use mathlib.Core.List.{List, [], _∷_, _++_}
 use lib.ListN.{getD}
 use Rattle.slot.specs.declared.number.Node.{Node}
 use Rattle.slot.specs.declared.number.Vertex.{Vertex}
+use Rattle.refusal.specs.Refusal.{sideNumber}
 use Rattle.record.specs.declared.kind.Kind.{Kind}
 use Rattle.record.specs.declared.kind.Kind.the-variants as K
 use Rattle.record.specs.declared.request.Conflict.{Conflict}
@@ -95,16 +96,17 @@ abbrev pub answerKind : Record → Kind
 answerKind (A.Speed n s) = K.Speed
 answerKind (A.Create n) = K.Create
 answerKind (A.Expand n) = K.Expand
-answerKind (A.End e) = K.End
+answerKind (A.End e s) = K.End
 answerKind (A.Pair p) = K.Pair
 answerKind (A.VirtualPair p) = K.VirtualPair
 
--- "speed (node, [speed])", "end (0 or the refusal)", "pair (node, peer, through, peer through)", "virtual pair (node, through, virtual)"
+-- "speed (node, [speed])", "end (0 or the refusal)" with "the side as its last two bytes" (ticket 1), "pair (node, peer, through,
+-- peer through)", "virtual pair (node, through, virtual)"
 abbrev pub answerFields : Record → List ℕ
 answerFields (A.Speed n s) = n .0 ∷ speedNumber s ∷ []
 answerFields (A.Create n) = n .0 ∷ []
 answerFields (A.Expand n) = n .0 ∷ []
-answerFields (A.End e) = e ∷ []
+answerFields (A.End e s) = e ∷ sideNumber s ∷ []
 answerFields (A.Pair p) = p .node .0 ∷ p .peer .0 ∷ p .through .0 ∷ p .«peer_through» .0 ∷ []
 answerFields (A.VirtualPair p) = p .node .0 ∷ p .through .0 ∷ p .«virtual_vertex» .0 ∷ []
 

@@ -8,7 +8,7 @@ use Rattle.lists.specs.Choice.{pick}
 use Rattle.lists.specs.Stores.{stores}
 use Rattle.refusal.specs.declared.Refusal.the-variants.{NoRecordRoom}
 use Rattle.refusal.specs.declared.Answer.{Answer}
-use Rattle.refusal.specs.Refusal.{numberOf, answerNumber, answerWritten}
+use Rattle.refusal.specs.Refusal.{numberOf, answerNumber, answerSide, answerWritten}
 use Rattle.record.specs.declared.answer.Record.{Record}
 use Rattle.record.specs.Records.{answerBytes}
 
@@ -42,18 +42,19 @@ unfoldable pub bytesOf : List Record → List ℕ
 bytesOf [] = []
 bytesOf (r ∷ rs) = answerBytes r ++ bytesOf rs
 
--- the lent bytes after a call, and what it answers: 0 or the refusal's number, and how many bytes were written
+-- the lent bytes after a call, and what it answers: 0 or the refusal's number, its side, and how many bytes were written
 pub record Wrote : Type 0 where
   pub buf : List ℕ
   pub number : ℕ
+  pub side : ℕ
   pub size : ℕ
 
 abbrev pub wroteOf : List ℕ → Answer → Wrote
-wroteOf l a = record { buf = l; number = answerNumber a; size = answerWritten a }
+wroteOf l a = record { buf = l; number = answerNumber a; side = answerSide a; size = answerWritten a }
 
--- one record written by a call: refused exactly where it lacks room, and then every byte is as it was
+-- one record written by a call: refused exactly where it lacks room, at neither side, and then every byte is as it was
 unfoldable pub wrote : Out → List ℕ → Wrote
 wrote o bs =
     pick (lacksRoom o bs)
-    (record { buf = o .buf; number = numberOf NoRecordRoom; size = 0 })
-    (record { buf = placed (o .buf) (o .pos) bs; number = 0; size = length bs })
+    (record { buf = o .buf; number = numberOf NoRecordRoom; side = 0; size = 0 })
+    (record { buf = placed (o .buf) (o .pos) bs; number = 0; side = 0; size = length bs })

@@ -1,4 +1,5 @@
 // Answers: commands, the end of a request, and the entries of a listing.
+use refusal::Side;
 use slot::Node;
 use slot::Vertex;
 
@@ -21,12 +22,12 @@ pub struct VirtualPair {
     pub virtual_vertex: Vertex,
 }
 
-// The first three are the commands. An end carries 0 or the refusal's number.
+// The first three are the commands. An end carries 0 or the refusal's number, and the side that the refusal is for.
 pub enum Record {
     Speed(Node, Speed),
     Create(Node),
     Expand(Node),
-    End(u16),
+    End(u16, Side),
     Pair(Pair),
     VirtualPair(VirtualPair),
 }

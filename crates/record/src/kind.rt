@@ -58,7 +58,7 @@ pub const EXPAND_LENGTH: u16 = 4;
 
 pub const END: u16 = 19;
 
-pub const END_LENGTH: u16 = 4;
+pub const END_LENGTH: u16 = 6;
 
 pub const PAIR: u16 = 20;
 

@@ -4,6 +4,7 @@ use record::Pair;
 use record::Speed;
 use record::VirtualPair;
 use record::kind;
+use refusal::Side;
 use slot::Node;
 ghost use mathlib.Core.Path.{_≡_};
 ghost use Rattle.record.specs.declared.answer.Record.the-variants as R;
@@ -40,11 +41,12 @@ pub fn expand(out: &mut [u8], pos: usize, blossom: Node) -> usize
     record_fields::runs::narrow_3(out, pos, kind::EXPAND_LENGTH, kind::EXPAND, blossom.0)
 }
 
-// 0, or the refusal's number.
-pub fn end(out: &mut [u8], pos: usize, number: u16) -> usize
-    ensures { λ r. ⌜ outOf (now (out .exit)) r ≡ written (outOf (now (out .entry)) pos) (answerBytes (R.End number)) ⌝ }
+// 0 or the refusal's number, and the side that it is for.
+pub fn end(out: &mut [u8], pos: usize, number: u16, side: Side) -> usize
+    ensures { λ r. ⌜ outOf (now (out .exit)) r ≡ written (outOf (now (out .entry)) pos) (answerBytes (R.End number side)) ⌝ }
 {
-    record_fields::runs::narrow_3(out, pos, kind::END_LENGTH, kind::END, number)
+    let side_number = refusal::side_number(side);
+    record_fields::runs::narrow_4(out, pos, kind::END_LENGTH, kind::END, number, side_number)
 }
 
 pub fn pair(out: &mut [u8], pos: usize, pair: Pair) -> usize

@@ -4,6 +4,7 @@ pub mod requests;
 use record::Record;
 use refusal::Answer;
 use refusal::Refusal;
+use refusal::Side;
 ghost use mathlib.Core.Path.{_≡_};
 ghost use Rattle.record.specs.Records.{answerBytes};
 ghost use Rattle.record.specs.Writing.{outOf, written, wroteOf, wrote};
@@ -16,7 +17,7 @@ fn emit(out: &mut [u8], pos: usize, answer: Record) -> usize
         Record::Speed(node, speed) => record_answers::speed(out, pos, node, speed),
         Record::Create(blossom) => record_answers::create(out, pos, blossom),
         Record::Expand(blossom) => record_answers::expand(out, pos, blossom),
-        Record::End(number) => record_answers::end(out, pos, number),
+        Record::End(number, side) => record_answers::end(out, pos, number, side),
         Record::Pair(pair) => record_answers::pair(out, pos, pair),
         Record::VirtualPair(pair) => record_answers::virtual_pair(out, pos, pair),
     }
@@ -28,7 +29,7 @@ pub fn write_answer(out: &mut [u8], pos: usize, answer: Record) -> Answer
 {
     let end = emit(out, pos, answer);
     if end == pos {
-        return Answer::Refused(Refusal::NoRecordRoom);
+        return Answer::Refused(Refusal::NoRecordRoom, Side::Neither);
     }
     Answer::Done(end - pos)
 }

@@ -3,6 +3,7 @@ use record::Request;
 use record::kind;
 use refusal::Answer;
 use refusal::Refusal;
+use refusal::Side;
 ghost use mathlib.Core.Path.{_≡_};
 ghost use Rattle.record.specs.Records.{requestBytes};
 ghost use Rattle.record.specs.Writing.{outOf, written, wroteOf, wrote};
@@ -52,7 +53,7 @@ pub fn write_request(out: &mut [u8], pos: usize, request: Request) -> Answer
 {
     let end = put_request(out, pos, request);
     if end == pos {
-        return Answer::Refused(Refusal::NoRecordRoom);
+        return Answer::Refused(Refusal::NoRecordRoom, Side::Neither);
     }
     Answer::Done(end - pos)
 }

@@ -1,4 +1,4 @@
--- A number stands for one refusal, and a number with the bytes written for one answer.
+-- A number stands for one refusal, another for one side; both with the bytes written for one answer.
 use mathlib.Core.Path.{_≡_, refl, sym, ap, _∙_}
 use mathlib.Core.List.{List, [], _∷_}
 use Prim.Native.Nat.{ℕ, _<_}
@@ -6,9 +6,11 @@ use native.Mathlib.Omega.{arith}
 use lib.ListN.{getD}
 use Rattle.refusal.specs.declared.Refusal.{Refusal}
 use Rattle.refusal.specs.declared.Refusal.the-variants.{NotSound, NoRecordRoom, NoSuchNode, NotOuter, SameNode, TouchOutside, NotGrowing, NoBlossomSlot, NoCommandRoom, NoListingRoom, NotExpandable, BadRecord, BadBegin}
+use Rattle.refusal.specs.declared.Side.{Side}
+use Rattle.refusal.specs.declared.Side.the-variants.{Neither, First, Second}
 use Rattle.refusal.specs.declared.Answer.{Answer}
 use Rattle.refusal.specs.declared.Answer.the-variants.{Done, Refused}
-use Rattle.refusal.specs.Refusal.{numberOf, answerNumber, answerWritten}
+use Rattle.refusal.specs.Refusal.{numberOf, sideNumber, answerNumber, answerSide, answerWritten}
 
 -- ---- refusals
 
@@ -67,16 +69,29 @@ number-some NotExpandable = omega arith
 number-some BadRecord = omega arith
 number-some BadBegin = omega arith
 
+-- ---- sides
+
+abbrev sideWith : ℕ → Side
+sideWith n = getD (Neither ∷ First ∷ Second ∷ []) n Neither
+
+side-back : (s : Side) → sideWith (sideNumber s) ≡ s
+side-back Neither = refl
+side-back First = refl
+side-back Second = refl
+
+pub same-side : (s u : Side) → sideNumber s ≡ sideNumber u → s ≡ u
+same-side s u e = sym (side-back s) ∙ ap sideWith e ∙ side-back u
+
 -- ---- answers
 
 pub is-done : (r : Answer) → answerNumber r ≡ 0 → r ≡ Done (answerWritten r)
 is-done (Done k) e = refl
-is-done (Refused n) e = absurd (omega (arith, number-some n))
+is-done (Refused n s) e = absurd (omega (arith, number-some n))
 
-pub is-refused : (r : Answer) (n : Refusal) → answerNumber r ≡ numberOf n → r ≡ Refused n
-is-refused (Done k) n e = absurd (omega (arith, number-some n))
-is-refused (Refused m) n e = ap Refused (same-refusal m n e)
+pub is-refused : (r : Answer) (n : Refusal) (s : Side) → answerNumber r ≡ numberOf n → answerSide r ≡ sideNumber s → r ≡ Refused n s
+is-refused (Done k) n s e f = absurd (omega (arith, number-some n))
+is-refused (Refused m u) n s e f = rw (same-refusal m n e, same-side u s f)
 
-pub same-answer : (r r′ : Answer) → answerNumber r ≡ answerNumber r′ → answerWritten r ≡ answerWritten r′ → r ≡ r′
-same-answer r (Done k) e w = is-done r e ∙ ap Done w
-same-answer r (Refused n) e w = is-refused r n e
+pub same-answer : (r r′ : Answer) → answerNumber r ≡ answerNumber r′ → answerSide r ≡ answerSide r′ → answerWritten r ≡ answerWritten r′ → r ≡ r′
+same-answer r (Done k) e f w = is-done r e ∙ ap Done w
+same-answer r (Refused n s) e f w = is-refused r n s e f

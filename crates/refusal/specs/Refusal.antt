@@ -1,7 +1,9 @@
--- "Numbers given back": which number of 01 each case is, and what an answer says.
+-- "Numbers given back": which number of 01 each case is, at which side a refusal is given (ticket 1 of 02), and what an answer says.
 use Prim.Native.Nat.{ℕ}
 use Rattle.refusal.specs.declared.Refusal.{Refusal}
 use Rattle.refusal.specs.declared.Refusal.the-variants.{NotSound, NoRecordRoom, NoSuchNode, NotOuter, SameNode, TouchOutside, NotGrowing, NoBlossomSlot, NoCommandRoom, NoListingRoom, NotExpandable, BadRecord, BadBegin}
+use Rattle.refusal.specs.declared.Side.{Side}
+use Rattle.refusal.specs.declared.Side.the-variants.{Neither, First, Second}
 use Rattle.refusal.specs.declared.Answer.{Answer}
 use Rattle.refusal.specs.declared.Answer.the-variants.{Done, Refused}
 
@@ -20,12 +22,23 @@ numberOf NotExpandable = 11
 numberOf BadRecord = 12
 numberOf BadBegin = 13
 
+-- ticket 1: "1 or 2, and for a virtual conflict always 1", "0 after any other number or success"
+abbrev pub sideNumber : Side → ℕ
+sideNumber Neither = 0
+sideNumber First = 1
+sideNumber Second = 2
+
 -- 0, or the refusal's number
 abbrev pub answerNumber : Answer → ℕ
 answerNumber (Done n) = 0
-answerNumber (Refused r) = numberOf r
+answerNumber (Refused r s) = numberOf r
+
+-- 0, or the number of the refusal's side
+abbrev pub answerSide : Answer → ℕ
+answerSide (Done n) = 0
+answerSide (Refused r s) = sideNumber s
 
 -- "report the bytes written"; a refusal writes nothing
 abbrev pub answerWritten : Answer → ℕ
 answerWritten (Done n) = n
-answerWritten (Refused r) = 0
+answerWritten (Refused r s) = 0

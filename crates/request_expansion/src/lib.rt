@@ -5,6 +5,7 @@ pub mod opening;
 use record::Expansion;
 use refusal::Answer;
 use refusal::Refusal;
+use refusal::Side;
 use refusal::Verdict;
 use slot::Node;
 use slot::Slot;
@@ -67,11 +68,11 @@ pub fn expand(t: &mut Table, out: &mut [u8], pos: usize, e: Expansion) -> Answer
     ensures { λ r. ⌜ Handled (Q.Expansion e) pos (now (t .entry)) (now (out .entry)) r (now (t .exit)) (now (out .exit)) ⌝ }
 {
     if outcome::room(out, pos) < outcome::COMMAND_ROOM {
-        return Answer::Refused(Refusal::NoCommandRoom);
+        return Answer::Refused(Refusal::NoCommandRoom, Side::Neither);
     }
     let node = e.node;
     match request_judging::judge_expansion(t, e) {
         Verdict::Accepted => Answer::Done(resolve_expansion(t, out, pos, node)),
-        Verdict::Refused(refusal) => Answer::Refused(refusal),
+        Verdict::Refused(refusal, side) => Answer::Refused(refusal, side),
     }
 }

@@ -14,7 +14,7 @@ use Rattle.table.specs.Nodes.{inner, isDefect}
 use Rattle.table.specs.Climb.{inside, insideWithin, outerBlossom, outerBlossomWithin}
 use Rattle.table.proofs.Climbs.{inside-here}
 use Rattle.rules.specs.Trees.{seen}
-use Rattle.rules.specs.Refusals.{isNoNode, isOutside}
+use Rattle.rules.specs.Refusals.{isNoNode, isNoVertex, isNoSide, isOutside}
 use Rattle.request_judging.specs.Seen.{seenState, elsewhere}
 
 or-none : (a : Bool) → (a || false) ≡ a
@@ -31,8 +31,11 @@ no-slot : (p : Bool) (s : State) → (p || not (isPresent s)) ≡ not (isPresent
 no-slot true s = refl
 no-slot false s = refl
 
-pub no-node-read : (t : Table) (n : ℕ) (s : State) → s ≡ seenState t n → isNoNode t n ≡ not (isPresent s)
+no-node-read : (t : Table) (n : ℕ) (s : State) → s ≡ seenState t n → isNoNode t n ≡ not (isPresent s)
 no-node-read t n s e = no-slot (leb 256 n) (seen t n .state) ∙ ap (λ (x : State). not (isPresent x)) (sym e)
+
+pub side-read : (t : Table) (n v : ℕ) (s : State) → s ≡ seenState t n → (not (isPresent s) || isNoVertex v) ≡ isNoSide t n v
+side-read t n v s e = ap (λ (b : Bool). b || isNoVertex v) (sym (no-node-read t n s e))
 
 present-slot : (p : Bool) (s u : State) → not (isPresent s) ≡ false → s ≡ pick p S.Empty u → s ≡ u
 present-slot true s u h e = absurd (true≢false (rw e at h))

@@ -6,6 +6,7 @@ use borrow.Author.Tests.{lt-ltb, le-ltb}
 use Rattle.table.specs.Table.{Table}
 use Rattle.table.specs.Words.{tableOf}
 use Rattle.refusal.specs.declared.Verdict.the-variants as W
+use Rattle.refusal.specs.declared.Side.the-variants.{Neither}
 use Rattle.refusal.specs.declared.Refusal.the-variants.{NoListingRoom}
 use Rattle.record.specs.declared.request.Request.the-variants as Q
 use Rattle.record.specs.Writing.{outOf, writeAll}
@@ -17,7 +18,7 @@ use Rattle.rules.proofs.DefectCounts.{defects-most}
 use Rattle.outcome.specs.Handled.{laterVerdict}
 
 module _ (t : Table) (room : ℕ) where
-  pub list-no-room : (m k d : ℕ) → d ≡ presentDefects t → m ≡ room → k ≡ 16 * d → m < k → laterVerdict Q.List t room ≡ W.Refused NoListingRoom
+  pub list-no-room : (m k d : ℕ) → d ≡ presentDefects t → m ≡ room → k ≡ 16 * d → m < k → laterVerdict Q.List t room ≡ W.Refused NoListingRoom Neither
   unfolding laterVerdict
   list-no-room m k d f g n h =
       let h′ : room < 16 * presentDefects t = rw (g, n, f) at h in

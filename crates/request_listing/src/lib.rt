@@ -5,6 +5,7 @@ pub mod slots;
 
 use refusal::Answer;
 use refusal::Refusal;
+use refusal::Side;
 use slot::Node;
 use table::Table;
 use table::field;
@@ -77,7 +78,7 @@ pub fn list(t: &Table, out: &mut [u8], pos: usize) -> Answer
     let defects = table::counts::count_defects(t);
     let needed = outcome::ENTRY_ROOM * defects_below(t, defects);
     if outcome::room(out, pos) < needed {
-        return Answer::Refused(Refusal::NoListingRoom);
+        return Answer::Refused(Refusal::NoListingRoom, Side::Neither);
     }
     Answer::Done(list_given(t, out, pos))
 }

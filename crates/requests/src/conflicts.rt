@@ -4,6 +4,7 @@
 use record::Conflict;
 use refusal::Answer;
 use refusal::Refusal;
+use refusal::Side;
 use refusal::Verdict;
 use table::Table;
 ghost use Rattle.record.specs.declared.request.Request.the-variants as Q;
@@ -13,10 +14,10 @@ pub fn conflict(t: &mut Table, out: &mut [u8], pos: usize, c: Conflict) -> Answe
     ensures { λ r. ⌜ Handled (Q.Conflict c) pos (now (t .entry)) (now (out .entry)) r (now (t .exit)) (now (out .exit)) ⌝ }
 {
     if outcome::room(out, pos) < outcome::COMMAND_ROOM {
-        return Answer::Refused(Refusal::NoCommandRoom);
+        return Answer::Refused(Refusal::NoCommandRoom, Side::Neither);
     }
     match request_judging::judge_conflict(t, c) {
         Verdict::Accepted => Answer::Done(crate::resolving::resolve_conflict(t, out, pos, c)),
-        Verdict::Refused(refusal) => Answer::Refused(refusal),
+        Verdict::Refused(refusal, side) => Answer::Refused(refusal, side),
     }
 }

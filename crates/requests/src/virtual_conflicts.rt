@@ -3,6 +3,7 @@
 use record::VirtualConflict;
 use refusal::Answer;
 use refusal::Refusal;
+use refusal::Side;
 use refusal::Verdict;
 use slot::Node;
 use table::Place;
@@ -52,10 +53,10 @@ pub fn virtual_conflict(t: &mut Table, out: &mut [u8], pos: usize, c: VirtualCon
     ensures { λ r. ⌜ Handled (Q.VirtualConflict c) pos (now (t .entry)) (now (out .entry)) r (now (t .exit)) (now (out .exit)) ⌝ }
 {
     if outcome::room(out, pos) < outcome::COMMAND_ROOM {
-        return Answer::Refused(Refusal::NoCommandRoom);
+        return Answer::Refused(Refusal::NoCommandRoom, Side::Neither);
     }
     match request_judging::judge_virtual_conflict(t, c) {
         Verdict::Accepted => Answer::Done(resolve_virtual_conflict(t, out, pos, c)),
-        Verdict::Refused(refusal) => Answer::Refused(refusal),
+        Verdict::Refused(refusal, side) => Answer::Refused(refusal, side),
     }
 }

@@ -11,7 +11,7 @@ use Rattle.record.specs.declared.request.Request.{Request}
 use Rattle.record.specs.declared.request.Reading.{Reading}
 use Rattle.record.specs.declared.request.Reading.the-variants as G
 use Rattle.record.specs.Reading as reading
-use Rattle.rules.specs.Run.{Stop, tapeEmpty, allowanceUsed, outputFull, badRecord, Progress, Ended, stopped, advanced, goOn, room, runFrom}
+use Rattle.rules.specs.Run.{Stop, tapeEmpty, allowanceUsed, outputFull, badRecord, Progress, Ended, stopped, advanced, goOn, room, runFrom, runRoom}
 
 -- what may be said of a run by how many records it handles, where it stands and where it ends
 abbrev pub OfRuns : Type 1
@@ -21,12 +21,12 @@ OfRuns = ℕ → Progress → Ended → Type 0
 abbrev pub AtAStop : OfRuns → Type 0
 AtAStop Holds = (s : Stop) (p : Progress) → Holds 0 p (stopped s p)
 
--- it is carried over a record that is read and served, which is done with 4,102 bytes or more
+-- it is carried over a record that is read and served, which is done with 4,104 bytes or more
 abbrev pub OverARecord : OfRuns → Type 0
 OverARecord Holds =
     (n : ℕ) (p : Progress) (q : Request) (size : ℕ) (e : Ended)
     → reading.read (p .rest) ≡ G.Request q size
-    → 4102 ≤ room (p .world)
+    → runRoom ≤ room (p .world)
     → Holds n (advanced q size p) e
     → Holds (suc n) p e
 
@@ -48,7 +48,7 @@ module _ (Holds : OfRuns) (at-a-stop : AtAStop Holds) (over-a-record : OverAReco
       (more : Progress → Ended)
       → ((p : Progress) → Counted p (more p))
       → (p : Progress)
-      → 4102 ≤ room (p .world)
+      → runRoom ≤ room (p .world)
       → (r : Reading)
       → reading.read (p .rest) ≡ r
       → Counted p (goOn more r p)
@@ -62,9 +62,9 @@ module _ (Holds : OfRuns) (at-a-stop : AtAStop Holds) (over-a-record : OverAReco
   counted zero p = either p (eqb (length (p .rest)) 0) (stopped tapeEmpty p) (stopped allowanceUsed p) (at-once tapeEmpty p) (λ _. at-once allowanceUsed p)
   counted (suc k) p =
       let after = goOn (runFrom k) (reading.read (p .rest)) p in
-      either p (eqb (length (p .rest)) 0) (stopped tapeEmpty p) (pick (ltb (room (p .world)) 4102) (stopped outputFull p) after) (at-once tapeEmpty p)
-      (λ _. either p (ltb (room (p .world)) 4102) (stopped outputFull p) after (at-once outputFull p)
-      (λ t. gone-on (runFrom k) (counted k) p (ltb-false (room (p .world)) 4102 t) (reading.read (p .rest)) refl))
+      either p (eqb (length (p .rest)) 0) (stopped tapeEmpty p) (pick (ltb (room (p .world)) runRoom) (stopped outputFull p) after) (at-once tapeEmpty p)
+      (λ _. either p (ltb (room (p .world)) runRoom) (stopped outputFull p) after (at-once outputFull p)
+      (λ t. gone-on (runFrom k) (counted k) p (ltb-false (room (p .world)) runRoom t) (reading.read (p .rest)) refl))
 
   pub run-induction : (allowance : ℕ) (p : Progress) → let e = runFrom allowance p in Holds (e .progress .handled - p .handled) p e
   run-induction allowance p =

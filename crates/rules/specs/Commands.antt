@@ -20,7 +20,7 @@ abbrev pub isCommand : Record → Bool
 isCommand (R.Speed n s) = true
 isCommand (R.Create n) = true
 isCommand (R.Expand n) = true
-isCommand (R.End e) = false
+isCommand (R.End e s) = false
 isCommand (R.Pair p) = false
 isCommand (R.VirtualPair p) = false
 

@@ -1,4 +1,4 @@
--- "Numbers given back": which refusals each call has, in which order, and when each applies.
+-- "Numbers given back": which refusals each call has, in which order, when each applies, and at which side (ticket 1 of 02).
 use Prim.Native.Nat.{ℕ, zero, suc, _+_, _*_}
 use mathlib.Core.Bool.{Bool, not, _&&_, _||_}
 use mathlib.Core.List.{List, [], _∷_}
@@ -10,6 +10,8 @@ use Rattle.table.specs.Table.{Table, at}
 use Rattle.table.specs.Nodes.{isBlossom, isDefect, present}
 use Rattle.refusal.specs.declared.Refusal.{Refusal}
 use Rattle.refusal.specs.declared.Refusal.the-variants.{NotSound, NoSuchNode, NotOuter, SameNode, TouchOutside, NotGrowing, NoBlossomSlot, NoCommandRoom, NoListingRoom, NotExpandable}
+use Rattle.refusal.specs.declared.Side.{Side}
+use Rattle.refusal.specs.declared.Side.the-variants.{Neither, First, Second}
 use Rattle.refusal.specs.declared.Verdict.{Verdict}
 use Rattle.refusal.specs.declared.Verdict.the-variants.{Accepted, Refused}
 use Rattle.record.specs.declared.request.Conflict.{Conflict}
@@ -21,19 +23,26 @@ use Rattle.rules.specs.Blossom.{lacksBlossomSlot}
 use Rattle.table.specs.Place.{inTree}
 use Rattle.rules.specs.Trees.{seen, sameTree}
 
--- a test, and the refusal that is given where it is true
+-- a test, the refusal that is given where it is true, and the side that the refusal is for
 pub record Check : Type 0 where
   pub applies : Bool
   pub refusal : Refusal
+  pub side : Side
 
+-- the check of one named node
+infix 68 _on_when_
+abbrev pub _on_when_ : Refusal → Side → Bool → Check
+r on s when b = record { applies = b; refusal = r; side = s }
+
+-- .. and one that is for neither side
 infix 68 _when_
 abbrev pub _when_ : Refusal → Bool → Check
-r when b = record { applies = b; refusal = r }
+r when b = record { applies = b; refusal = r; side = Neither }
 
 -- "The first that applies is given."
 abbrev pub firstOf : List Check → Verdict
 firstOf [] = Accepted
-firstOf (c ∷ cs) = pick (c .applies) (Refused (c .refusal)) (firstOf cs)
+firstOf (c ∷ cs) = pick (c .applies) (Refused (c .refusal) (c .side)) (firstOf cs)
 
 -- ---- the tests
 
@@ -48,6 +57,10 @@ isNoNode t n = leb 256 n || not (isPresent (seen t n .state))
 -- ".. or a vertex is none"
 abbrev pub isNoVertex : ℕ → Bool
 isNoVertex v = eqb v noVertex
+
+-- 3 at one side: of its node, or of its vertex
+abbrev pub isNoSide : Table → ℕ → ℕ → Bool
+isNoSide t n v = isNoNode t n || isNoVertex v
 
 -- 4: "a named node is not outer"
 abbrev pub isNotOuter : Table → ℕ → Bool
@@ -88,17 +101,8 @@ lacksListingRoom t room = ltb room (16 * presentDefects t)
 abbrev pub isNotExpandable : Table → ℕ → Bool
 isNotExpandable t n = not (isBlossom t n && isShrink (at t n .state))
 
--- ---- the calls, each with its numbers in 01's order; each number is tried on both nodes before the next
-
-abbrev pub conflictNamesNoNode : Table → Conflict → Bool
-conflictNamesNoNode t c =
-    isNoNode t (c .«node_1» .0) || isNoNode t (c .«node_2» .0) || isNoVertex (c .«vertex_1» .0) || isNoVertex (c .«vertex_2» .0)
-
-abbrev pub conflictNotOuter : Table → Conflict → Bool
-conflictNotOuter t c = isNotOuter t (c .«node_1» .0) || isNotOuter t (c .«node_2» .0)
-
-abbrev pub conflictTouchesOutside : Table → Conflict → Bool
-conflictTouchesOutside t c = isOutside t (c .«node_1» .0) (c .«touch_1» .0) || isOutside t (c .«node_2» .0) (c .«touch_2» .0)
+-- ---- the calls, each with its numbers in 01's order; each number is tried on both nodes before the next, and "[w]hen both sides
+-- fail the same check, side 1 is named"
 
 abbrev pub conflictNotGrowing : Table → Conflict → Bool
 conflictNotGrowing t c =
@@ -109,13 +113,16 @@ conflictNotGrowing t c =
 abbrev pub conflictLacksSlot : Table → Conflict → Bool
 conflictLacksSlot t c = makesBlossom t (c .«node_1» .0) (c .«node_2» .0) && lacksBlossomSlot t
 
--- "3, 4, 5, 6, 7, 8"
+-- "3, 4, 5, 6, 7, 8", of which 3, 4 and 6 name a side
 unfoldable pub conflictNodeChecks : Table → Conflict → List Check
 conflictNodeChecks t c =
-    NoSuchNode when conflictNamesNoNode t c
-    ∷ NotOuter when conflictNotOuter t c
+    NoSuchNode on First when isNoSide t (c .«node_1» .0) (c .«vertex_1» .0)
+    ∷ NoSuchNode on Second when isNoSide t (c .«node_2» .0) (c .«vertex_2» .0)
+    ∷ NotOuter on First when isNotOuter t (c .«node_1» .0)
+    ∷ NotOuter on Second when isNotOuter t (c .«node_2» .0)
     ∷ SameNode when eqb (c .«node_1» .0) (c .«node_2» .0)
-    ∷ TouchOutside when conflictTouchesOutside t c
+    ∷ TouchOutside on First when isOutside t (c .«node_1» .0) (c .«touch_1» .0)
+    ∷ TouchOutside on Second when isOutside t (c .«node_2» .0) (c .«touch_2» .0)
     ∷ NotGrowing when conflictNotGrowing t c
     ∷ NoBlossomSlot when conflictLacksSlot t c
     ∷ []
@@ -124,15 +131,14 @@ conflictNodeChecks t c =
 abbrev pub conflictChecks : Table → ℕ → Conflict → List Check
 conflictChecks t room c = NotSound when not (sound t) ∷ NoCommandRoom when lacksCommandRoom room ∷ conflictNodeChecks t c
 
-abbrev pub virtualNamesNoNode : Table → VirtualConflict → Bool
-virtualNamesNoNode t c = isNoNode t (c .node .0) || isNoVertex (c .vertex .0) || isNoVertex (c .«virtual_vertex» .0)
-
--- "3, 4, 6, 7": of one node, "a node is −, or no named node is Grow" says that it is not Grow
+-- "3, 4, 6, 7": of one node, "a node is −, or no named node is Grow" says that it is not Grow; the side is "for a virtual conflict
+-- always 1", of its virtual vertex too
 unfoldable pub virtualNodeChecks : Table → VirtualConflict → List Check
 virtualNodeChecks t c =
-    NoSuchNode when virtualNamesNoNode t c
-    ∷ NotOuter when isNotOuter t (c .node .0)
-    ∷ TouchOutside when isOutside t (c .node .0) (c .touch .0)
+    NoSuchNode on First when isNoSide t (c .node .0) (c .vertex .0)
+    ∷ NoSuchNode on First when isNoVertex (c .«virtual_vertex» .0)
+    ∷ NotOuter on First when isNotOuter t (c .node .0)
+    ∷ TouchOutside on First when isOutside t (c .node .0) (c .touch .0)
     ∷ NotGrowing when not (isGrowing t (c .node .0))
     ∷ []
 

@@ -8,14 +8,13 @@ use Rattle.lists.specs.Choice.{pick}
 use Rattle.record.specs.declared.request.Request.{Request}
 use Rattle.record.specs.declared.request.Reading.{Reading}
 use Rattle.record.specs.declared.request.Reading.the-variants as G
-use Rattle.record.specs.declared.answer.Record.the-variants as R
 use Rattle.record.specs.Reading as reading
 use Rattle.record.specs.Writing.{writeAll}
 use Rattle.rules.specs.Act.{World}
 use Rattle.rules.specs.Sound.{sound}
-use Rattle.rules.specs.Calls.{answered, verdict, verdictNumber}
+use Rattle.rules.specs.Calls.{answered, verdict, endRecord}
 
--- "it stops, in this order: tape empty (0), allowance used up (1), output below 4,102 bytes (2), bad record (3)"
+-- "it stops, in this order: tape empty (0), allowance used up (1), output below [..] bytes (2), bad record (3)"
 pub data Stop : Type 0 where
   tapeEmpty allowanceUsed outputFull badRecord : Stop
 
@@ -24,6 +23,10 @@ stopNumber tapeEmpty = 0
 stopNumber allowanceUsed = 1
 stopNumber outputFull = 2
 stopNumber badRecord = 3
+
+-- ticket 1: "The run now stops for room below 4,104 bytes", 4,096 for commands and 8 for the end record
+abbrev pub runRoom : ℕ
+runRoom = 4104
 
 -- where a run stands: table and output, "the unread rest of the caller's tape", "how many records it handled"
 pub record Progress : Type 0 where
@@ -42,8 +45,8 @@ room w = length (w .out .buf) - w .out .pos
 unfoldable pub served : Request → World → World
 served r w =
     let d = answered r (room w) (w .table) in
-    let n = verdictNumber (verdict r (w .table) (room w)) in
-    record { table = d .table; out = writeAll (w .out) (d .said ++ R.End n ∷ []) }
+    let end = endRecord (verdict r (w .table) (room w)) in
+    record { table = d .table; out = writeAll (w .out) (d .said ++ end ∷ []) }
 
 abbrev pub stopped : Stop → Progress → Ended
 stopped s p = record { stop = s; progress = p }
@@ -62,7 +65,7 @@ unfoldable pub runFrom : ℕ → Progress → Ended
 runFrom zero p = pick (eqb (length (p .rest)) 0) (stopped tapeEmpty p) (stopped allowanceUsed p)
 runFrom (suc k) p =
     let next = goOn (runFrom k) (reading.read (p .rest)) p in
-    pick (eqb (length (p .rest)) 0) (stopped tapeEmpty p) (pick (ltb (room (p .world)) 4102) (stopped outputFull p) next)
+    pick (eqb (length (p .rest)) 0) (stopped tapeEmpty p) (pick (ltb (room (p .world)) runRoom) (stopped outputFull p) next)
 
 -- so many records stand between the tape's start and the rest
 abbrev pub Between : ℕ → List ℕ → List ℕ → Type 0

@@ -4,6 +4,7 @@ use mathlib.Core.List.{List}
 use Prim.Native.Nat.{ℕ, _≤_, _<_}
 use native.Mathlib.Omega.{arith}
 use borrow.Author.Tests.{le-leb, lt-leb}
+use Rattle.refusal.specs.declared.Side.the-variants.{Neither}
 use Rattle.refusal.specs.declared.Answer.the-variants.{Done, Refused}
 use Rattle.refusal.specs.declared.Refusal.the-variants.{BadBegin}
 use Rattle.table.specs.Table.{Table}
@@ -27,11 +28,11 @@ empty-step ws t₁ t₂ t₃ p q r =
 
 -- making
 
-pub made-low : (ws : List ℕ) (b : ℕ) → b < 1 → Made ws b (Refused BadBegin) ws
-made-low ws b h = rw (lt-leb 1 b h) (refl, refl, refl)
+pub made-low : (ws : List ℕ) (b : ℕ) → b < 1 → Made ws b (Refused BadBegin Neither) ws
+made-low ws b h = rw (lt-leb 1 b h) (refl, refl, refl, refl)
 
-pub made-high : (ws : List ℕ) (b : ℕ) → 1 ≤ b → 256 < b → Made ws b (Refused BadBegin) ws
-made-high ws b l h = rw (le-leb 1 b l, lt-leb b 256 h) (refl, refl, refl)
+pub made-high : (ws : List ℕ) (b : ℕ) → 1 ≤ b → 256 < b → Made ws b (Refused BadBegin Neither) ws
+made-high ws b l h = rw (le-leb 1 b l, lt-leb b 256 h) (refl, refl, refl, refl)
 
 pub made-done :
     (ws vs us : List ℕ) (b : ℕ)

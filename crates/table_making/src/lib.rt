@@ -3,6 +3,7 @@ pub mod resetting;
 
 use refusal::Answer;
 use refusal::Refusal;
+use refusal::Side;
 use slot::Node;
 use table::Table;
 ghost use mathlib.Core.Path.{_≡_};
@@ -36,10 +37,10 @@ pub fn make(t: &mut Table, begin: u16) -> Answer
     ensures { λ r. ⌜ Made (now (t .entry)) begin r (now (t .exit)) ⌝ }
 {
     if begin < 1 {
-        return Answer::Refused(Refusal::BadBegin);
+        return Answer::Refused(Refusal::BadBegin, Side::Neither);
     }
     if 256 < begin {
-        return Answer::Refused(Refusal::BadBegin);
+        return Answer::Refused(Refusal::BadBegin, Side::Neither);
     }
     table::counts::set_begin(t, begin);
     empty_table(t);

@@ -10,6 +10,7 @@ use Rattle.record.specs.declared.request.Reading.{Reading}
 use Rattle.record.specs.declared.request.Reading.the-variants as G
 use Rattle.record.specs.Reading as reading
 use Rattle.tape.specs.declared.next.Next.the-variants as N
+use Rattle.rules.specs.Run.{runRoom}
 use Rattle.tape.specs.Next.{nextOf}
 
 module _ (rest : List ℕ) (left room : ℕ) where
@@ -23,15 +24,15 @@ module _ (rest : List ℕ) (left room : ℕ) where
     used e = rw (ne-eqb (length rest) 0 more, eq-eqb left 0 e)
 
     module _ (allowed : left ≡ 0 → ⊥) where
-      pub full : room < 4102 → N.Stop 2 ≡ nextOf rest left room
+      pub full : room < runRoom → N.Stop 2 ≡ nextOf rest left room
       unfolding nextOf
-      full e = rw (ne-eqb (length rest) 0 more, ne-eqb left 0 allowed, lt-ltb room 4102 e)
+      full e = rw (ne-eqb (length rest) 0 more, ne-eqb left 0 allowed, lt-ltb room runRoom e)
 
-      module _ (fits : 4102 ≤ room) (g : Reading) (read : g ≡ reading.read rest) where
+      module _ (fits : runRoom ≤ room) (g : Reading) (read : g ≡ reading.read rest) where
         pub one : (q : Request) (size : ℕ) → g ≡ G.Request q size → N.Record q size (left - 1) ≡ nextOf rest left room
         unfolding nextOf
-        one q size e = rw (ne-eqb (length rest) 0 more, ne-eqb left 0 allowed, le-ltb room 4102 fits, ← read, e)
+        one q size e = rw (ne-eqb (length rest) 0 more, ne-eqb left 0 allowed, le-ltb room runRoom fits, ← read, e)
 
         pub bad : (n : Refusal) → g ≡ G.Refused n → N.Stop 3 ≡ nextOf rest left room
         unfolding nextOf
-        bad n e = rw (ne-eqb (length rest) 0 more, ne-eqb left 0 allowed, le-ltb room 4102 fits, ← read, e)
+        bad n e = rw (ne-eqb (length rest) 0 more, ne-eqb left 0 allowed, le-ltb room runRoom fits, ← read, e)

@@ -5,6 +5,7 @@ use Prim.Native.Nat.{ℕ, _-_, _≤_}
 use lib.ListN.{length, drop}
 use native.Mathlib.Omega.{arith}
 use Rattle.refusal.specs.declared.Refusal.the-variants.{BadRecord}
+use Rattle.refusal.specs.declared.Side.the-variants.{Neither}
 use Rattle.refusal.specs.Refusal.{numberOf}
 use Rattle.record.specs.declared.answer.Record.the-variants as R
 use Rattle.record.specs.Records.{answerBytes}
@@ -43,7 +44,7 @@ pub end-written :
     (o p : Out) (e : TurnEnd) (n : ℕ)
     → e ≡ BadTape
     → n ≡ numberOf BadRecord
-    → p ≡ written o (answerBytes (R.End n))
+    → p ≡ written o (answerBytes (R.End n Neither))
     → p ≡ writeAll o (lastRecords e)
 unfolding writeAll
 end-written o p e n f g h = rw f (h ∙ rw g)

@@ -7,7 +7,7 @@ use Rattle.lists.specs.Choice.{pick}
 use Rattle.record.specs.declared.request.Reading.{Reading}
 use Rattle.record.specs.declared.request.Reading.the-variants as G
 use Rattle.record.specs.Reading as reading
-use Rattle.rules.specs.Run.{tapeEmpty, allowanceUsed, outputFull, badRecord, stopNumber}
+use Rattle.rules.specs.Run.{tapeEmpty, allowanceUsed, outputFull, badRecord, stopNumber, runRoom}
 use Rattle.tape.specs.declared.next.Next.{Next}
 use Rattle.tape.specs.declared.next.Next.the-variants as N
 
@@ -22,4 +22,4 @@ nextOf rest left room =
     (N.Stop (stopNumber tapeEmpty))
     (pick (eqb left 0)
     (N.Stop (stopNumber allowanceUsed))
-    (pick (ltb room 4102) (N.Stop (stopNumber outputFull)) (afterReading (reading.read rest) left)))
+    (pick (ltb room runRoom) (N.Stop (stopNumber outputFull)) (afterReading (reading.read rest) left)))

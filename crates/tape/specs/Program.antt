@@ -4,6 +4,7 @@ use mathlib.Core.List.{List, [], _∷_}
 use Prim.Native.Nat.{ℕ}
 use lib.ListN.{length}
 use Rattle.refusal.specs.declared.Refusal.the-variants.{BadRecord}
+use Rattle.refusal.specs.declared.Side.the-variants.{Neither}
 use Rattle.refusal.specs.Refusal.{numberOf}
 use Rattle.record.specs.declared.answer.Record.{Record}
 use Rattle.record.specs.declared.answer.Record.the-variants as R
@@ -38,7 +39,7 @@ endOf badRecord = BadTape
 abbrev pub lastRecords : TurnEnd → List Record
 lastRecords TapeRead = []
 lastRecords GoesOn = []
-lastRecords BadTape = R.End (numberOf BadRecord) ∷ []
+lastRecords BadTape = R.End (numberOf BadRecord) Neither ∷ []
 lastRecords NotSound = []
 
 -- those records written behind the answers

@@ -11,7 +11,7 @@ pub enum Next {
     Record(Request, usize, u32),
 }
 
-// 01: "Before each record it stops, in this order". The room is what the output has left: 4,096 bytes for the answers and 6 for
+// 01: "Before each record it stops, in this order". The room is what the output has left: 4,096 bytes for the answers and 8 for
 // the end record.
 pub fn what_next(rest: &[u8], left: u32, room: usize) -> Next
     ensures { λ r. ⌜ r ≡ nextOf (now (rest .entry)) left room ⌝ }

@@ -1,6 +1,7 @@
 // A turn of the program: the numbers that 01 gives it, how it ends, by the run's stop, the end record behind a bad tape, and the tape that
 // the next turn takes.
 use refusal::Refusal;
+use refusal::Side;
 ghost use mathlib.Core.Path.{_≡_};
 ghost use Prim.Native.Nat.{_-_};
 ghost use lib.ListN.{length, drop};
@@ -71,7 +72,12 @@ pub fn close(out: &mut [u8], pos: usize, end: TurnEnd) -> usize
     match end {
         TurnEnd::TapeRead => pos,
         TurnEnd::GoesOn => pos,
-        TurnEnd::BadTape => record_answers::end(out, pos, refusal::number(Refusal::BadRecord)),
+        TurnEnd::BadTape => record_answers::end(
+            out,
+            pos,
+            refusal::number(Refusal::BadRecord),
+            Side::Neither,
+        ),
         TurnEnd::NotSound => pos,
     }
 }

@@ -3,6 +3,7 @@
 use crate::show;
 use record::Reading;
 use refusal::Answer;
+use refusal::Side;
 
 fn again(tape: &[u8], out: &mut [u8; 24]) -> Answer {
     match record_reading::read_record(tape) {
@@ -10,7 +11,7 @@ fn again(tape: &[u8], out: &mut [u8; 24]) -> Answer {
             show::told(b" ", size);
             record_writing::requests::write_request(out, 0, request)
         }
-        Reading::Refused(refusal) => Answer::Refused(refusal),
+        Reading::Refused(refusal) => Answer::Refused(refusal, Side::Neither),
     }
 }
 

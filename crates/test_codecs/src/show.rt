@@ -11,7 +11,7 @@ pub fn told(words: &[u8], n: usize) {
 pub fn outcome(answer: Answer, lent: &[u8; 24]) {
     match answer {
         Answer::Done(size) => told(b" done ", size),
-        Answer::Refused(refusal) => told(b" refused ", refusal::number(refusal) as usize),
+        Answer::Refused(refusal, _) => told(b" refused ", refusal::number(refusal) as usize),
     }
     bytes(lent);
 }

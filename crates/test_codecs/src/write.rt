@@ -9,6 +9,7 @@ use record::Speed;
 use record::VirtualConflict;
 use record::VirtualPair;
 use refusal::Answer;
+use refusal::Side;
 use slot::Node;
 use slot::Vertex;
 ghost use Prim.Native.Nat.{_<_};
@@ -20,7 +21,7 @@ fn answer_of(i: u8) -> Record {
         2 => Record::Speed(Node(65535), Speed::Shrink),
         3 => Record::Create(Node(128)),
         4 => Record::Expand(Node(255)),
-        5 => Record::End(12),
+        5 => Record::End(6, Side::Second),
         6 => Record::Pair(Pair {
             node: Node(0),
             peer: Node(1),
@@ -97,7 +98,7 @@ pub fn all() {
     rooms(2, 8);
     rooms(3, 6);
     rooms(4, 6);
-    rooms(5, 6);
+    rooms(5, 8);
     rooms(6, 16);
     rooms(7, 14);
     rooms(8, 20);

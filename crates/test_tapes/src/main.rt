@@ -42,7 +42,7 @@ fn in_order(t: &mut Table, out: &mut [u8], script: &[u8], order: usize)
     while k < 24 {
         let i = orders::at(script, order, k);
         let from = i % 24 * orders::ROOM;
-        let to = from + 4102;
+        let to = from + 4104;
         run(t, &letters::request(script, i), &mut out[from..to], 1);
         k += 1;
     }

@@ -32,7 +32,7 @@ pub fn at(script: &[u8], order: usize, k: usize) -> usize {
     i
 }
 
-// The answers to request i start at i times this. Its room is 4,102 bytes, what a run wants, of which the next room leaves it these:
+// The answers to request i start at i times this. Its room is 4,104 bytes, what a run wants, of which the next room leaves it these:
 // no request of a script has more answers.
 pub const ROOM: usize = 2600;
 

@@ -7,7 +7,7 @@ use crate::writing::write_named;
 use record::Kind;
 use text_decimals::write_bytes;
 
-// Why a request is refused: each has its line in REASONS, with up to three numbers.
+// Why a request is refused: each has its line in REASONS, with up to three numbers, and the side.
 pub const PAST_THE_TABLE: usize = 1;
 
 pub const EMPTY_SLOT: usize = 2;
@@ -45,14 +45,14 @@ pub const EXPAND_STAYS: usize = 17;
 pub const EXPAND_GROWS: usize = 18;
 
 // Marks as in a record's form, on the numbers put side by side.
-const REASONS: [u8; 796] = *b"|  refused 3: node #n0 is past the last slot, 255
-|  refused 3: blossom slot #n0 is empty
-|  refused 3: the vertex at node #n0 is none
-|  refused 3: the virtual vertex is none
-|  refused 4: node #n0 is inside blossom #n1
+const REASONS: [u8; 880] = *b"|  refused 3 at side #n3: node #n0 is past the last slot, 255
+|  refused 3 at side #n3: blossom slot #n0 is empty
+|  refused 3 at side #n3: the vertex at node #n0 is none
+|  refused 3 at side #n3: the virtual vertex is none
+|  refused 4 at side #n3: node #n0 is inside blossom #n1
 |  refused 5: both nodes are #n0
-|  refused 6: touch #n1 of node #n0 is no defect: those are below #n2
-|  refused 6: touch #n1 is not inside node #n0
+|  refused 6 at side #n3: touch #n1 of node #n0 is no defect: those are below #n2
+|  refused 6 at side #n3: touch #n1 is not inside node #n0
 |  refused 7: node #n0 shrinks
 |  refused 7: node #n0 stays
 |  refused 7: nodes #n0 and #n1 stay
@@ -80,17 +80,34 @@ const FAULTS: [u8; 136] = *b"|cut short
 |length #n1 for kind #n0, whose records have #n2
 ";
 
-fn write_numbers(out: &mut [u8], pos: usize, form: &[u8], a: u16, b: u16, c: u16) -> usize {
-    let mut numbers = [0u8; 6];
+fn write_numbers(
+    out: &mut [u8],
+    pos: usize,
+    form: &[u8],
+    a: u16,
+    b: u16,
+    c: u16,
+    side: u16,
+) -> usize {
+    let mut numbers = [0u8; 8];
     put(&mut numbers, 0, a as u32, 2);
     put(&mut numbers, 2, b as u32, 2);
     put(&mut numbers, 4, c as u32, 2);
-    write_form(out, pos, form, 3, &numbers)
+    put(&mut numbers, 6, side as u32, 2);
+    write_form(out, pos, form, 4, &numbers)
 }
 
 // The line of a reason.
-pub fn write_reason(out: &mut [u8], pos: usize, reason: usize, a: u16, b: u16, c: u16) -> usize {
-    write_numbers(out, pos, nth(&REASONS, b'|', reason), a, b, c)
+pub fn write_reason(
+    out: &mut [u8],
+    pos: usize,
+    reason: usize,
+    a: u16,
+    b: u16,
+    c: u16,
+    side: u16,
+) -> usize {
+    write_numbers(out, pos, nth(&REASONS, b'|', reason), a, b, c, side)
 }
 
 fn kind_fault(kind: Kind) -> usize {
@@ -139,6 +156,7 @@ fn write_record_fault(out: &mut [u8], pos: usize, tape: &[u8]) -> usize {
         number,
         narrow_at(tape, 0),
         length,
+        0,
     )
 }
 

@@ -28,7 +28,7 @@ acceptedLater (r ∷ rs) t = let rest = acceptedLater rs (actOf r t .table) in i
 
 is-accepted : (v : Verdict) → T (isAccepted v) → v ≡ Accepted
 is-accepted Accepted h = refl
-is-accepted (Refused n) h = absurd h
+is-accepted (Refused n s) h = absurd h
 
 module _ (r : Request) (t : Table) (w : Whole t) where
   accepted : T (isAccepted (laterVerdict r t 4096)) → verdict r t 4096 ≡ Accepted

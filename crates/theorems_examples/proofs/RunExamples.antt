@@ -30,11 +30,11 @@ program-answer = refl
 
 -- all of the tape; one record allowed; no room for a second; a bad third record
 stops :
-    (reported (runTape 10 (world 4200) tape) ≡ report 0 2 44 0)
-    × (reported (runTape 1 (world 4200) tape) ≡ report 1 1 22 4)
-    × (reported (runTape 10 (world 4102) tape) ≡ report 2 1 22 4)
-    × (reported (runTape 10 (world 4101) tape) ≡ report 2 0 0 24)
-    × (reported (runTape 10 (world 4200) (tape ++ 7 ∷ [])) ≡ report 3 2 44 1)
+    (reported (runTape 10 (world 4200) tape) ≡ report 0 2 48 0)
+    × (reported (runTape 1 (world 4200) tape) ≡ report 1 1 24 4)
+    × (reported (runTape 10 (world 4104) tape) ≡ report 2 1 24 4)
+    × (reported (runTape 10 (world 4103) tape) ≡ report 2 0 0 24)
+    × (reported (runTape 10 (world 4200) (tape ++ 7 ∷ [])) ≡ report 3 2 48 1)
 unfolding all-rules tape world reported report requestBytes answerBytes layoutOf reading.read placed written writeAll
 stops = (refl, refl, refl, refl, refl)
 
@@ -43,14 +43,23 @@ stop-order :
     (reported (runTape 0 (world 0) []) ≡ report 0 0 0 0)
     × (reported (runTape 0 (world 0) (7 ∷ [])) ≡ report 1 0 0 1)
     × (reported (runTape 1 (world 0) (7 ∷ [])) ≡ report 2 0 0 1)
-    × (reported (runTape 1 (world 4102) (7 ∷ [])) ≡ report 3 0 0 1)
+    × (reported (runTape 1 (world 4104) (7 ∷ [])) ≡ report 3 0 0 1)
 unfolding all-rules world reported report requestBytes answerBytes layoutOf reading.read placed written writeAll
 stop-order = (refl, refl, refl, refl)
 
 -- a refused request yields only its end record, and counts as handled
-refused-in-a-run : bytesOf (runTape 10 (world 4200) (requestBytes (meet 0 0 0 0 10 11))) ≡ 0x04 ∷ 0x00 ∷ 0x13 ∷ 0x00 ∷ 0x05 ∷ 0x00 ∷ []
+refused-in-a-run : bytesOf (runTape 10 (world 4200) (requestBytes (meet 0 0 0 0 10 11))) ≡ 0x06 ∷ 0x00 ∷ 0x13 ∷ 0x00 ∷ 0x05 ∷ 0x00 ∷ 0x00 ∷ 0x00 ∷ []
 unfolding all-rules world bytesOf requestBytes answerBytes layoutOf reading.read placed written writeAll
 refused-in-a-run = refl
+
+-- .. with the side, where it names one
+side-in-a-run :
+    bytesOf (runTape 10 (world 4200) (requestBytes (meet 0 256 0 1 10 11) ++ requestBytes (meet 0 1 1 0 10 11)))
+    ≡ 0x06 ∷ 0x00 ∷ 0x13 ∷ 0x00 ∷ 0x03 ∷ 0x00 ∷ 0x02 ∷ 0x00
+    ∷ 0x06 ∷ 0x00 ∷ 0x13 ∷ 0x00 ∷ 0x06 ∷ 0x00 ∷ 0x01 ∷ 0x00
+    ∷ []
+unfolding all-rules world bytesOf requestBytes answerBytes layoutOf reading.read placed written writeAll
+side-in-a-run = refl
 
 -- an unsound table is refused before any stop
 unsound-first : runTape 0 (record { table = put (fresh 128) 0 newNode; out = outOf [] 0 }) [] ≡ unsound

@@ -38,15 +38,15 @@ tape : List ℕ
 tape = requestBytes Q.List ++ requestBytes Q.List
 
 end-0 : List ℕ
-end-0 = 0x04 ∷ 0x00 ∷ 0x13 ∷ 0x00 ∷ 0x00 ∷ 0x00 ∷ []
+end-0 = 0x06 ∷ 0x00 ∷ 0x13 ∷ 0x00 ∷ 0x00 ∷ 0x00 ∷ 0x00 ∷ 0x00 ∷ []
 
 end-12 : List ℕ
-end-12 = 0x04 ∷ 0x00 ∷ 0x13 ∷ 0x00 ∷ 0x0C ∷ 0x00 ∷ []
+end-12 = 0x06 ∷ 0x00 ∷ 0x13 ∷ 0x00 ∷ 0x0C ∷ 0x00 ∷ 0x00 ∷ 0x00 ∷ []
 
 -- read to its end; room for one record, so that it goes on; bad, and ended by 12
 turns-seen :
     (turnIn 4200 tape ≡ seen TapeRead (end-0 ++ end-0) 0)
-    × (turnIn 4102 tape ≡ seen GoesOn end-0 4)
+    × (turnIn 4104 tape ≡ seen GoesOn end-0 4)
     × (turnIn 4200 (tape ++ 7 ∷ []) ≡ seen BadTape (end-0 ++ end-0 ++ end-12) 1)
     × (turnIn 4200 [] ≡ seen TapeRead [] 0)
 unfolding all-rules seen seenOf turnIn tape end-0 end-12 requestBytes answerBytes layoutOf reading.read placed written writeAll

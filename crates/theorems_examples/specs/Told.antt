@@ -1,4 +1,4 @@
--- How the worked examples tell the number that a request is given, and what a run reports.
+-- How the worked examples tell the number and the side that a request is given, and what a run reports.
 use mathlib.Core.Path.{_≡_}
 use mathlib.Core.List.{List, []}
 use Prim.Native.Nat.{ℕ}
@@ -6,19 +6,24 @@ use lib.ListN.{length, take}
 use Rattle.table.specs.Table.{Table}
 use Rattle.table.specs.Making.{fresh}
 use Rattle.record.specs.declared.request.Request.{Request}
-use Rattle.rules.specs.Calls.{verdict, verdictNumber}
+use Rattle.refusal.specs.declared.Verdict.{Verdict}
+use Rattle.rules.specs.Calls.{verdict, verdictNumber, verdictSide}
 use Rattle.rules.specs.Run.{Ran, unsound, ran, stopNumber}
 use Rattle.rules.specs.Script.{after}
 
 -- ---- a request
 
--- the number that it is given on a table, with so much room: 0, or the refusal's
-unfoldable pub numberOn : Table → ℕ → Request → ℕ
-numberOn t room r = verdictNumber (verdict r t room)
+-- the number that it is given, 0 or the refusal's, and the side
+abbrev pub numbers : Verdict → ℕ × ℕ
+numbers v = (verdictNumber v, verdictSide v)
 
--- the number that it is given on the table of begin 128 after some others, with so much room
-pub record Gives (room : ℕ) (rs : List Request) (r : Request) (n : ℕ) : Type 0 where
-  pub number : verdictNumber (verdict r (after rs (fresh 128)) room) ≡ n
+-- .. on a table, with so much room
+unfoldable pub numbersOn : Table → ℕ → Request → ℕ × ℕ
+numbersOn t room r = numbers (verdict r t room)
+
+-- .. on the table of begin 128 after some others, with so much room
+pub record Gives (room : ℕ) (rs : List Request) (r : Request) (number side : ℕ) : Type 0 where
+  pub given : numbers (verdict r (after rs (fresh 128)) room) ≡ (number, side)
 
 -- ---- a run
 

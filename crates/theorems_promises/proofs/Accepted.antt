@@ -11,6 +11,7 @@ use Rattle.table.specs.Words.{tableOf}
 use Rattle.table.proofs.WordsOfSlots.{slots-length}
 use Rattle.refusal.specs.declared.Answer.{Answer}
 use Rattle.refusal.specs.declared.Answer.the-variants as A
+use Rattle.refusal.specs.declared.Side.the-variants.{Neither}
 use Rattle.refusal.specs.declared.Refusal.the-variants.{NotSound}
 use Rattle.refusal.specs.declared.Verdict.{Verdict}
 use Rattle.refusal.specs.declared.Verdict.the-variants as W
@@ -54,7 +55,7 @@ accepted-sound q t room e = go (sound t) refl
   where
     go : (b : Bool) → sound t ≡ b → T b
     go true d = tt
-    go false d = let f : W.Refused NotSound ≡ W.Accepted = sym (unsound-verdict q t room d) ∙ e in let z : _≡_ {A = ℕ} 0 1 = cc in absurd (omega arith)
+    go false d = let f : W.Refused NotSound Neither ≡ W.Accepted = sym (unsound-verdict q t room d) ∙ e in let z : _≡_ {A = ℕ} 0 1 = cc in absurd (omega arith)
 
 pub answered-act : (q : Request) (t : Table) (room : ℕ) → verdict q t room ≡ W.Accepted → answered q room t ≡ actOf q t
 unfolding answered

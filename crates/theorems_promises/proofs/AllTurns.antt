@@ -12,6 +12,7 @@ use Rattle.lists.specs.Choice.{pick}
 use Rattle.table.specs.Words.{tableOf}
 use Rattle.table.specs.Making.{fresh, beginFits, Made}
 use Rattle.refusal.specs.declared.Answer.the-variants as A
+use Rattle.refusal.specs.declared.Side.the-variants.{Neither}
 use Rattle.refusal.specs.declared.Refusal.the-variants.{BadRecord}
 use Rattle.refusal.specs.Refusal.{numberOf}
 use Rattle.record.specs.declared.request.Request.{Request}
@@ -134,10 +135,10 @@ pub end-behind :
     (end : TurnEnd) (rest : List ℕ)
     → RestBy end rest
     → (rest ≡ [] → ⊥)
-    → (bytesOf (lastRecords end) ≡ answerBytes (R.End (numberOf BadRecord))) × reading.Bad rest
+    → (bytesOf (lastRecords end) ≡ answerBytes (R.End (numberOf BadRecord) Neither)) × reading.Bad rest
 unfolding bytesOf
 end-behind TapeRead rest h n = absurd (n h)
-end-behind BadTape rest h n = (append-nil (answerBytes (R.End (numberOf BadRecord))), h .1)
+end-behind BadTape rest h n = (append-nil (answerBytes (R.End (numberOf BadRecord) Neither)), h .1)
 end-behind GoesOn rest h n = absurd h
 end-behind NotSound rest h n = absurd h
 

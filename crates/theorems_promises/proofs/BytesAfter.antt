@@ -7,6 +7,7 @@ use lib.ListN.{length, drop}
 use Rattle.table.specs.Words.{tableOf}
 use Rattle.refusal.specs.declared.Answer.{Answer}
 use Rattle.refusal.specs.declared.Answer.the-variants as A
+use Rattle.refusal.specs.declared.Side.{Side}
 use Rattle.refusal.specs.declared.Refusal.{Refusal}
 use Rattle.refusal.specs.declared.Verdict.the-variants as W
 use Rattle.refusal.specs.Refusal.{answerWritten}
@@ -34,8 +35,8 @@ module _ (q : Request) (words bytes : List ℕ) (r : Answer) (words′ bytes′ 
   accepted-bytes e = accepted-left q words bytes r words′ bytes′ e h
 
   -- refused: "Each refusal returns its number and the table as given, loads nothing, writes nothing."
-  pub refused-bytes : (n : Refusal) → verdict q (tableOf words) (length bytes) ≡ W.Refused n → (r ≡ A.Refused n) × (words′ ≡ words) × (bytes′ ≡ bytes)
-  refused-bytes n e = refused-left q words bytes r words′ bytes′ n e h
+  pub refused-bytes : (n : Refusal) (s : Side) → verdict q (tableOf words) (length bytes) ≡ W.Refused n s → (r ≡ A.Refused n s) × (words′ ≡ words) × (bytes′ ≡ bytes)
+  refused-bytes n s e = refused-left q words bytes r words′ bytes′ n s e h
 
   -- both in one: a refused request says nothing
   pub call-bytes :

@@ -9,10 +9,11 @@ use Rattle.table.specs.Words.{tableOf}
 use Rattle.table.proofs.WordsOfSlots.{slots-length}
 use Rattle.refusal.specs.declared.Answer.{Answer}
 use Rattle.refusal.specs.declared.Answer.the-variants as A
+use Rattle.refusal.specs.declared.Side.{Side}
 use Rattle.refusal.specs.declared.Refusal.{Refusal}
 use Rattle.refusal.specs.declared.Verdict.{Verdict}
 use Rattle.refusal.specs.declared.Verdict.the-variants as W
-use Rattle.refusal.specs.Refusal.{numberOf, answerNumber, answerWritten}
+use Rattle.refusal.specs.Refusal.{numberOf, sideNumber, answerNumber, answerSide, answerWritten}
 use Rattle.refusal.proofs.Numbers.{is-refused}
 use Rattle.record.specs.declared.request.Request.{Request}
 use Rattle.record.specs.declared.answer.Record.{Record}
@@ -56,9 +57,9 @@ pub call-fits : (q : Request) (words bytes : List ℕ) → length (bytesOf (answ
 call-fits q words bytes = answered-bytes (tableOf words) (slots-length words) (length bytes) q .1
 
 module _ (q : Request) (words bytes : List ℕ) (r : Answer) (words′ bytes′ : List ℕ) where
-  refused-said : (n : Refusal) → verdict q (tableOf words) (length bytes) ≡ W.Refused n → answered q (length bytes) (tableOf words) .said ≡ []
+  refused-said : (n : Refusal) (s : Side) → verdict q (tableOf words) (length bytes) ≡ W.Refused n s → answered q (length bytes) (tableOf words) .said ≡ []
   unfolding answered skip
-  refused-said n e = rw e
+  refused-said n s e = rw e
 
   pub accepted-left :
       verdict q (tableOf words) (length bytes) ≡ W.Accepted
@@ -71,18 +72,18 @@ module _ (q : Request) (words bytes : List ℕ) (r : Answer) (words′ bytes′ 
       let l = left (actOf q (tableOf words) .said) bytes bytes′ (answerWritten r) fits (d .out) in
       (d .answer ∙ ap A.Done (l .0), l .1)
 
-  refused-by : (v : Verdict) (n : Refusal) → v ≡ W.Refused n → Outcome v (actOf q) 0 words bytes r words′ bytes′ → (r ≡ A.Refused n) × (words′ ≡ words) × (bytes′ ≡ bytes)
-  refused-by v n e h =
-      let o : (answerNumber r ≡ numberOf n) × (answerWritten r ≡ 0) × (words′ ≡ words) × (bytes′ ≡ bytes) = rw e at h in
-      (is-refused r n (o .0), o .2, o .3)
+  refused-by : (v : Verdict) (n : Refusal) (s : Side) → v ≡ W.Refused n s → Outcome v (actOf q) 0 words bytes r words′ bytes′ → (r ≡ A.Refused n s) × (words′ ≡ words) × (bytes′ ≡ bytes)
+  refused-by v n s e h =
+      let o : (answerNumber r ≡ numberOf n) × (answerSide r ≡ sideNumber s) × (answerWritten r ≡ 0) × (words′ ≡ words) × (bytes′ ≡ bytes) = rw e at h in
+      (is-refused r n s (o .0) (o .1), o .3, o .4)
 
-  pub refused-left : (n : Refusal) → verdict q (tableOf words) (length bytes) ≡ W.Refused n → Call q words bytes r words′ bytes′ → (r ≡ A.Refused n) × (words′ ≡ words) × (bytes′ ≡ bytes)
-  refused-left n e h = refused-by (verdict q (tableOf words) (length bytes)) n e h
+  pub refused-left : (n : Refusal) (s : Side) → verdict q (tableOf words) (length bytes) ≡ W.Refused n s → Call q words bytes r words′ bytes′ → (r ≡ A.Refused n s) × (words′ ≡ words) × (bytes′ ≡ bytes)
+  refused-left n s e h = refused-by (verdict q (tableOf words) (length bytes)) n s e h
 
   left-by : (v : Verdict) → verdict q (tableOf words) (length bytes) ≡ v → Call q words bytes r words′ bytes′ → Left (bytesOf (answered q (length bytes) (tableOf words) .said)) bytes (answerWritten r) bytes′
   unfolding bytesOf
   left-by W.Accepted e h = let l = accepted-left e h in rw (answered-act q (tableOf words) (length bytes) e) (ap answerWritten (l .0), l .1)
-  left-by (W.Refused n) e h = let l = refused-left n e h in rw (refused-said n e) (ap answerWritten (l .0), l .2)
+  left-by (W.Refused n s) e h = let l = refused-left n s e h in rw (refused-said n s e) (ap answerWritten (l .0), l .2)
 
   pub call-left : Call q words bytes r words′ bytes′ → Left (bytesOf (answered q (length bytes) (tableOf words) .said)) bytes (answerWritten r) bytes′
   call-left h = left-by (verdict q (tableOf words) (length bytes)) refl h

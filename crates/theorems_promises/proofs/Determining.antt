@@ -15,11 +15,12 @@ use Rattle.table.proofs.WordsOfSlots.{slots-length}
 use Rattle.table.proofs.Determined.{words-determined}
 use Rattle.table.specs.Making.{fresh}
 use Rattle.refusal.specs.declared.Answer.{Answer}
+use Rattle.refusal.specs.declared.Answer.the-variants.{Done}
 use Rattle.refusal.specs.declared.Refusal.the-variants.{BadBegin}
 use Rattle.refusal.specs.declared.Verdict.{Verdict}
 use Rattle.refusal.specs.declared.Verdict.the-variants as W
-use Rattle.refusal.specs.Refusal.{numberOf, answerNumber, answerWritten}
-use Rattle.refusal.proofs.Numbers.{same-answer}
+use Rattle.refusal.specs.Refusal.{numberOf, answerNumber, answerSide, answerWritten}
+use Rattle.refusal.proofs.Numbers.{is-done, same-answer}
 use Rattle.record.specs.declared.request.Request.{Request}
 use Rattle.rules.specs.Act.{Act, World, worldOf, run}
 use Rattle.rules.specs.Sound.{sound}
@@ -40,6 +41,10 @@ pub same-words : (words words′ : List ℕ) → Lent words → Lent words′ �
 same-words words words′ l l′ e s =
     words-determined words words′ (l .1) (l′ .1) e (λ n q. sound→facts (tableOf words) (slots-length words) s .rest .undamaged n) (l .0) (l′ .0)
 
+-- two answers that were done, with as many bytes written
+same-done : (r r′ : Answer) → answerNumber r ≡ 0 → answerNumber r′ ≡ 0 → answerWritten r ≡ answerWritten r′ → r ≡ r′
+same-done r r′ e e′ w = is-done r e ∙ ap Done w ∙ sym (is-done r′ e′)
+
 -- ---- making
 
 -- the promise of making, with the test of begin as a variable
@@ -47,7 +52,7 @@ abbrev pub MadeBy : Bool → List ℕ → ℕ → Answer → List ℕ → Type 0
 MadeBy fits before b r after =
     pick fits
     ((answerNumber r ≡ 0) × (answerWritten r ≡ 0) × (tableOf after ≡ fresh b))
-    ((answerNumber r ≡ numberOf BadBegin) × (answerWritten r ≡ 0) × (after ≡ before))
+    ((answerNumber r ≡ numberOf BadBegin) × (answerSide r ≡ 0) × (answerWritten r ≡ 0) × (after ≡ before))
 
 pub made-once :
     (fits : Bool) (before : List ℕ) (b : ℕ) (r r′ : Answer) (after after′ : List ℕ)
@@ -58,8 +63,8 @@ pub made-once :
     → (r ≡ r′) × (after ≡ after′)
 made-once true before b r r′ after after′ l l′ h h′ =
     let clear : Undamaged (tableOf after) = λ n q e. let f : S.Empty ≡ S.Damaged = sym (ap (λ (t : Table). at t n .state) (h .2) ∙ ap (λ (x : Slot). x .state) (fresh-at b n)) ∙ e in let z : _≡_ {A = ℕ} 0 1 = cc in absurd (omega arith) in
-    (same-answer r r′ (h .0 ∙ sym (h′ .0)) (h .1 ∙ sym (h′ .1)), words-determined after after′ (l .1) (l′ .1) (h .2 ∙ sym (h′ .2)) clear (l .0) (l′ .0))
-made-once false before b r r′ after after′ l l′ h h′ = (same-answer r r′ (h .0 ∙ sym (h′ .0)) (h .1 ∙ sym (h′ .1)), h .2 ∙ sym (h′ .2))
+    (same-done r r′ (h .0) (h′ .0) (h .1 ∙ sym (h′ .1)), words-determined after after′ (l .1) (l′ .1) (h .2 ∙ sym (h′ .2)) clear (l .0) (l′ .0))
+made-once false before b r r′ after after′ l l′ h h′ = (same-answer r r′ (h .0 ∙ sym (h′ .0)) (h .1 ∙ sym (h′ .1)) (h .2 ∙ sym (h′ .2)), h .3 ∙ sym (h′ .3))
 
 -- ---- requests
 
@@ -71,11 +76,11 @@ module _ (act : Act) (pos : ℕ) (words bytes : List ℕ) (r r′ : Answer) (wor
       → Outcome v act pos words bytes r′ words₂ bytes₂
       → (r ≡ r′) × (words₁ ≡ words₂) × (bytes₁ ≡ bytes₂)
   unfolding run
-  outcome-once (W.Refused n) same h k =
-      (same-answer r r′ (h .0 ∙ sym (k .0)) (h .1 ∙ sym (k .1)), h .2 ∙ sym (k .2), h .3 ∙ sym (k .3))
+  outcome-once (W.Refused n s) same h k =
+      (same-answer r r′ (h .0 ∙ sym (k .0)) (h .1 ∙ sym (k .1)) (h .2 ∙ sym (k .2)), h .3 ∙ sym (k .3), h .4 ∙ sym (k .4))
   outcome-once W.Accepted same h k =
       let e : worldOf words₁ bytes₁ (answerWritten r) ≡ worldOf words₂ bytes₂ (answerWritten r′) = h .1 ∙ sym (k .1) in
-      (same-answer r r′ (h .0 ∙ sym (k .0)) (ap (λ (w : World). w .out .pos) e), same refl (ap (λ (w : World). w .table) (h .1)) (ap (λ (w : World). w .table) e), ap (λ (w : World). w .out .buf) e)
+      (same-done r r′ (h .0) (k .0) (ap (λ (w : World). w .out .pos) e), same refl (ap (λ (w : World). w .table) (h .1)) (ap (λ (w : World). w .table) e), ap (λ (w : World). w .out .buf) e)
 
 pub call-determined :
     (q : Request) (words bytes : List ℕ) (r r′ : Answer) (words₁ words₂ bytes₁ bytes₂ : List ℕ)

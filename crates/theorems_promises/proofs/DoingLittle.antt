@@ -12,6 +12,7 @@ use Rattle.table.specs.Words.{tableOf}
 use Rattle.table.specs.Making.{fresh}
 use Rattle.refusal.specs.declared.Answer.{Answer}
 use Rattle.refusal.specs.declared.Answer.the-variants as A
+use Rattle.refusal.specs.declared.Side.{Side}
 use Rattle.refusal.specs.declared.Refusal.{Refusal}
 use Rattle.refusal.specs.declared.Verdict.the-variants as W
 use Rattle.record.specs.declared.request.Request.{Request}
@@ -82,8 +83,8 @@ second-stay-0 : staying 0 (actOf (join 2 3) (fresh 128) .table) ≡ 0
 unfolding all-rules staying
 second-stay-0 = refl
 
-refused-not-done : (n : Refusal) (k : ℕ) → ¬ (A.Refused n ≡ A.Done k)
-refused-not-done n k e = let z : _≡_ {A = ℕ} 0 1 = cc in absurd (omega arith)
+refused-not-done : (n : Refusal) (s : Side) (k : ℕ) → ¬ (A.Refused n s ≡ A.Done k)
+refused-not-done n s k e = let z : _≡_ {A = ℕ} 0 1 = cc in absurd (omega arith)
 
 one-not-zero : ¬ (_≡_ {A = ℕ} 1 0)
 one-not-zero e = absurd (omega arith)
@@ -106,8 +107,8 @@ module _ (words bytes words′ bytes′ rest : List ℕ) (stop refusal handled w
 freshWorld : World
 freshWorld = record { table = fresh 128; out = outOf room 0 }
 
--- both records are handled, and 44 bytes written
-both-handled : (handledBy (runTape 10 freshWorld tape) ≡ 2) × (writtenBy (runTape 10 freshWorld tape) ≡ 44)
+-- both records are handled, and 48 bytes written
+both-handled : (handledBy (runTape 10 freshWorld tape) ≡ 2) × (writtenBy (runTape 10 freshWorld tape) ≡ 48)
 unfolding all-rules tape room freshWorld requestBytes answerBytes layoutOf reading.read placed written writeAll
 both-handled = (refl, refl)
 
@@ -116,18 +117,18 @@ module _ (words words′ bytes′ rest : List ℕ) (stop refusal handled written
   unfolding freshWorld
   world-fresh i = record { table = made i; out = outOf room 0 }
 
-  two-and-44 : (handled ≡ 2) × (written ≡ 44)
-  two-and-44 =
+  two-and-48 : (handled ≡ 2) × (written ≡ 48)
+  two-and-48 =
       let o = hands-out words room words′ bytes′ rest stop refusal handled written (runTape 10 (worldOf words room 0) tape) h in
       let e : runTape 10 (worldOf words room 0) tape ≡ runTape 10 freshWorld tape = ap (λ (w : World). runTape 10 w tape) world-fresh in
       (o .0 ∙ ap handledBy e ∙ both-handled .0, o .1 ∙ ap writtenBy e ∙ both-handled .1)
 
 -- ---- the lazy ports
 
--- one that refuses everything, whatever the number and the rest
-pub refuses-everything : (words words′ bytes′ : List ℕ) (n : Refusal) → Fresh words → ¬ Call (join 0 1) words room (A.Refused n) words′ bytes′
-refuses-everything words words′ bytes′ n made h =
-    refused-not-done n (answerWritten (A.Refused n)) (is-done (join 0 1) words words′ bytes′ (A.Refused n) made first-accepted h)
+-- one that refuses everything, whatever the number, the side and the rest
+pub refuses-everything : (words words′ bytes′ : List ℕ) (n : Refusal) (s : Side) → Fresh words → ¬ Call (join 0 1) words room (A.Refused n s) words′ bytes′
+refuses-everything words words′ bytes′ n s made h =
+    refused-not-done n s (answerWritten (A.Refused n s)) (is-done (join 0 1) words words′ bytes′ (A.Refused n s) made first-accepted h)
 
 -- one that hands the table back and claims success, whatever it writes
 pub hands-it-back : (words bytes′ : List ℕ) (r : Answer) → Fresh words → ¬ Call (join 0 1) words room r words bytes′
@@ -151,12 +152,12 @@ pub only-the-first :
     → Fresh words
     → ¬ Tape 10 words room tape stop refusal 1 written rest words′ bytes′
 only-the-first words words′ bytes′ rest stop refusal written made h =
-    let e = two-and-44 words words′ bytes′ rest stop refusal 1 written made h .0 in absurd (omega arith)
+    let e = two-and-48 words words′ bytes′ rest stop refusal 1 written made h .0 in absurd (omega arith)
 
 -- .. or that claims to have handled the second and leaves out what it answers
 pub second-not-answered :
     (words words′ bytes′ rest : List ℕ) (stop refusal handled : ℕ)
     → Fresh words
-    → ¬ Tape 10 words room tape stop refusal handled 22 rest words′ bytes′
+    → ¬ Tape 10 words room tape stop refusal handled 24 rest words′ bytes′
 second-not-answered words words′ bytes′ rest stop refusal handled made h =
-    let e = two-and-44 words words′ bytes′ rest stop refusal handled 22 made h .1 in absurd (omega arith)
+    let e = two-and-48 words words′ bytes′ rest stop refusal handled 24 made h .1 in absurd (omega arith)

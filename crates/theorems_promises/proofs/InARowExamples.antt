@@ -35,6 +35,6 @@ unfolding requestsOf tapeOf both requestBytes layoutOf reading.read
 bad-ends = refl
 
 -- a refused request yields only its end record, and the next is answered
-refused-first : bytesOf (inARow (meet 0 0 0 0 10 11 ∷ Q.List ∷ []) (fresh 128) .said) ≡ 0x04 ∷ 0x00 ∷ 0x13 ∷ 0x00 ∷ 0x05 ∷ 0x00 ∷ 0x04 ∷ 0x00 ∷ 0x13 ∷ 0x00 ∷ 0x00 ∷ 0x00 ∷ []
+refused-first : bytesOf (inARow (meet 0 0 0 0 10 11 ∷ Q.List ∷ []) (fresh 128) .said) ≡ 0x06 ∷ 0x00 ∷ 0x13 ∷ 0x00 ∷ 0x05 ∷ 0x00 ∷ 0x00 ∷ 0x00 ∷ 0x06 ∷ 0x00 ∷ 0x13 ∷ 0x00 ∷ 0x00 ∷ 0x00 ∷ 0x00 ∷ 0x00 ∷ []
 unfolding all-rules answeredAndEnded inARow bytesOf answerBytes
 refused-first = refl

@@ -9,6 +9,7 @@ use lib.ListN.{length}
 use Rattle.table.specs.Words.{tableOf}
 use Rattle.table.specs.Making.{fresh, Made}
 use Rattle.refusal.specs.declared.Answer.the-variants as A
+use Rattle.refusal.specs.declared.Side.the-variants.{Neither}
 use Rattle.refusal.specs.declared.Refusal.the-variants.{BadRecord}
 use Rattle.refusal.specs.Refusal.{numberOf}
 use Rattle.record.specs.declared.answer.Record.the-variants as R
@@ -48,7 +49,7 @@ module _ (begin : ℕ) (before words tape : List ℕ) (made : Made before begin 
   -- where it is not, it is bad, and behind those answers stands an end record 12
   pub bad-tape :
       (lastRest ts ≡ [] → ⊥)
-      → (allWritten ts ≡ bytesOf (inARow (requestsOf (allHandled ts) tape) (fresh begin) .said) ++ answerBytes (R.End (numberOf BadRecord))) × Bad (lastRest ts)
+      → (allWritten ts ≡ bytesOf (inARow (requestsOf (allHandled ts) tape) (fresh begin) .said) ++ answerBytes (R.End (numberOf BadRecord) Neither)) × Bad (lastRest ts)
   bad-tape n = let e = end-behind (lastEnd ts) (lastRest ts) read-or-bad n in (rw (fresh-left begin before words tape made ts .bytes, e .0), e .1)
 
   -- the table that they leave

@@ -50,7 +50,7 @@ not-made-same before b number after d h =
 
 number-is : (v : Verdict) (written : ℕ) → answerNumber (answerOf v written) ≡ verdictNumber v
 number-is W.Accepted written = refl
-number-is (W.Refused n) written = refl
+number-is (W.Refused n s) written = refl
 
 module _ (q : Request) (words bytes : List ℕ) (number written : ℕ) (words′ bytes′ : List ℕ) where
   abbrev v : Verdict

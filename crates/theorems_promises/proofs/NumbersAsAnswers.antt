@@ -10,10 +10,11 @@ use Rattle.table.specs.Words.{tableOf}
 use Rattle.table.specs.Making.{fresh}
 use Rattle.refusal.specs.declared.Answer.{Answer}
 use Rattle.refusal.specs.declared.Answer.the-variants as A
+use Rattle.refusal.specs.declared.Side.the-variants.{Neither}
 use Rattle.refusal.specs.declared.Refusal.the-variants.{BadBegin}
 use Rattle.refusal.specs.declared.Verdict.{Verdict}
 use Rattle.refusal.specs.declared.Verdict.the-variants as W
-use Rattle.refusal.specs.Refusal.{answerNumber, answerWritten}
+use Rattle.refusal.specs.Refusal.{numberOf, answerNumber, answerWritten}
 use Rattle.rules.specs.Act.{Act}
 use Rattle.rules.specs.Run.{Ran, unsound, ran}
 use Rattle.outcome.specs.Handled.{Outcome}
@@ -24,35 +25,35 @@ use Rattle.theorems_promises.proofs.Determining.{MadeBy}
 -- ---- requests
 
 abbrev pub answerOf : Verdict → ℕ → Answer
-answerOf (W.Refused n) written = A.Refused n
+answerOf (W.Refused n s) written = A.Refused n s
 answerOf W.Accepted written = A.Done written
 
 pub answered-by :
     (v : Verdict) (act : Act) (words bytes : List ℕ) (number written : ℕ) (words′ bytes′ : List ℕ)
     → Numbered v act words bytes number written words′ bytes′
     → Outcome v act 0 words bytes (answerOf v written) words′ bytes′
-answered-by (W.Refused n) act words bytes number written words′ bytes′ h = (refl, refl, h .2, h .3)
+answered-by (W.Refused n s) act words bytes number written words′ bytes′ h = (refl, refl, refl, h .2, h .3)
 answered-by W.Accepted act words bytes number written words′ bytes′ h = (refl, h .1)
 
 pub number-by :
     (v : Verdict) (act : Act) (words bytes : List ℕ) (number written : ℕ) (words′ bytes′ : List ℕ)
     → Numbered v act words bytes number written words′ bytes′
     → (number ≡ answerNumber (answerOf v written)) × (written ≡ answerWritten (answerOf v written))
-number-by (W.Refused n) act words bytes number written words′ bytes′ h = (h .0, h .1)
+number-by (W.Refused n s) act words bytes number written words′ bytes′ h = (h .0, h .1)
 number-by W.Accepted act words bytes number written words′ bytes′ h = (h .0, refl)
 
 -- ---- making
 
 abbrev pub madeAnswer : Bool → Answer
 madeAnswer true = A.Done 0
-madeAnswer false = A.Refused BadBegin
+madeAnswer false = A.Refused BadBegin Neither
 
 pub made-by :
     (fits : Bool) (before after : List ℕ) (b number : ℕ)
-    → pick fits ((number ≡ answerNumber (A.Done 0)) × (tableOf after ≡ fresh b)) ((number ≡ answerNumber (A.Refused BadBegin)) × (after ≡ before))
+    → pick fits ((number ≡ 0) × (tableOf after ≡ fresh b)) ((number ≡ numberOf BadBegin) × (after ≡ before))
     → (number ≡ answerNumber (madeAnswer fits)) × MadeBy fits before b (madeAnswer fits) after
 made-by true before after b number h = (h .0, (refl, refl, h .1))
-made-by false before after b number h = (h .0, (refl, refl, h .1))
+made-by false before after b number h = (h .0, (refl, refl, refl, h .1))
 
 -- ---- the run
 

@@ -15,7 +15,7 @@ use Rattle.record.specs.Writing.{Out, outOf, writeAll, bytesOf}
 use Rattle.record.proofs.Written.{writeAll-append, writeAll-room, length-placed}
 use Rattle.rules.specs.Act.{World, worldOf, run}
 use Rattle.rules.specs.Sound.{sound}
-use Rattle.rules.specs.Run.{Stop, tapeEmpty, allowanceUsed, outputFull, badRecord, Progress, Ended, room, Ran, ran, runFrom, began, runTape, Between, requestsOf}
+use Rattle.rules.specs.Run.{Stop, tapeEmpty, allowanceUsed, outputFull, badRecord, Progress, Ended, room, Ran, ran, runFrom, began, runTape, Between, requestsOf, runRoom}
 use Rattle.rules.proofs.RunCounts.{run-counts}
 use Rattle.theorems_soundness.proofs.Reflect.{test-true}
 use Rattle.theorems_soundness.proofs.Wholes.{to-whole}
@@ -45,7 +45,7 @@ said-first rs bytes bytes′ written h e =
 room-behind : (rs : List Record) (bytes : List ℕ) → length (bytesOf rs) ≤ length bytes → let o = writeAll (outOf bytes 0) rs in length (o .buf) - o .pos ≡ length bytes - length (bytesOf rs)
 room-behind rs bytes h = rw (writeAll-room rs bytes 0 (omega arith), length-placed) (omega arith)
 
-last-size : (e : TurnEnd) → length (bytesOf (lastRecords e)) ≤ 6
+last-size : (e : TurnEnd) → length (bytesOf (lastRecords e)) ≤ 8
 unfolding bytesOf answerBytes
 last-size TapeRead = omega arith
 last-size GoesOn = omega arith
@@ -106,7 +106,7 @@ record Known (words tape bytes : List ℕ) (e : Ended) : Type 0 where
 known :
     (words tape bytes : List ℕ)
     → T (sound (tableOf words))
-    → 4102 ≤ length bytes
+    → runRoom ≤ length bytes
     → (k : ℕ)
     → 0 < k
     → Known words tape bytes (runFrom k (began (worldOf words bytes 0) tape))

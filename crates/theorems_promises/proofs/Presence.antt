@@ -8,6 +8,7 @@ use lib.Dec.{T, ltb}
 use Rattle.table.specs.Table.{Table}
 use Rattle.table.specs.Making.{fresh}
 use Rattle.table.specs.Nodes.{isDefect, present}
+use Rattle.refusal.specs.declared.Side.{Side}
 use Rattle.refusal.specs.declared.Refusal.{Refusal}
 use Rattle.refusal.specs.declared.Verdict.{Verdict}
 use Rattle.refusal.specs.declared.Verdict.the-variants as W
@@ -135,20 +136,20 @@ module _ (t : Table) (room : ℕ) (w : Whole t) (n : ℕ) where
   where-accepted Q.Reset a = rw a (fresh-none (t .begin) n)
   where-accepted Q.List a = rw a (loads-present Q.List t t (same-loads Q.List t (λ m z. z)) n)
 
-  where-refused : (q : Request) (r : Refusal) → verdict q t room ≡ W.Refused r → AsLoaded q
+  where-refused : (q : Request) (r : Refusal) (s : Side) → verdict q t room ≡ W.Refused r s → AsLoaded q
   unfolding answered skip
-  where-refused (Q.Conflict c) r a = rw a (sym (or-false (isPresentDefect t n)))
-  where-refused (Q.VirtualConflict c) r a = rw a (sym (or-false (isPresentDefect t n)))
-  where-refused (Q.Expansion e) r a = rw a (sym (or-false (isPresentDefect t n)))
-  where-refused Q.Reset r a = rw a (sym (or-false (isPresentDefect t n)))
-  where-refused Q.List r a = rw a (sym (or-false (isPresentDefect t n)))
+  where-refused (Q.Conflict c) r s a = rw a (sym (or-false (isPresentDefect t n)))
+  where-refused (Q.VirtualConflict c) r s a = rw a (sym (or-false (isPresentDefect t n)))
+  where-refused (Q.Expansion e) r s a = rw a (sym (or-false (isPresentDefect t n)))
+  where-refused Q.Reset r s a = rw a (sym (or-false (isPresentDefect t n)))
+  where-refused Q.List r s a = rw a (sym (or-false (isPresentDefect t n)))
 
   pub answered-present : (q : Request) → AsLoaded q
   answered-present q = go (verdict q t room) refl
     where
       go : (v : Verdict) → verdict q t room ≡ v → AsLoaded q
       go W.Accepted a = where-accepted q a
-      go (W.Refused r) a = where-refused q r a
+      go (W.Refused r s) a = where-refused q r s a
 
 pub served-present : (q : Request) (w : World) → Whole (w .table) → (n : ℕ) → isPresentDefect (served q w .table) n ≡ loadedAfter q (room w) (w .table) (isPresentDefect (w .table)) n
 unfolding served

@@ -12,7 +12,7 @@ use Rattle.record.specs.Kinds.{layoutOf}
 use Rattle.record.specs.Records.{requestBytes, answerBytes}
 use Rattle.record.specs.Reading as reading
 use Rattle.record.specs.Writing.{bytesOf}
-use Rattle.rules.specs.Script.{meet}
+use Rattle.rules.specs.Script.{meet, printed}
 use Rattle.rules.proofs.Script.{all-rules}
 use Rattle.theorems_promises.specs.InARow.{tapeOf, answeredAndEnded, inARow}
 use Rattle.rules.specs.Run.{requestsOf}
@@ -24,21 +24,11 @@ use Rattle.theorems_promises.proofs.InTurns.{written-in-all}
 unfoldable pub tape : List ℕ
 tape = requestBytes (meet 0 1 0 1 10 11) ++ requestBytes Q.List
 
-unfoldable pub printed : List ℕ
-printed =
-    0x06 ∷ 0x00 ∷ 0x10 ∷ 0x00 ∷ 0x00 ∷ 0x00 ∷ 0x00 ∷ 0x00
-    ∷ 0x06 ∷ 0x00 ∷ 0x10 ∷ 0x00 ∷ 0x01 ∷ 0x00 ∷ 0x00 ∷ 0x00
-    ∷ 0x04 ∷ 0x00 ∷ 0x13 ∷ 0x00 ∷ 0x00 ∷ 0x00
-    ∷ 0x0E ∷ 0x00 ∷ 0x14 ∷ 0x00 ∷ 0x00 ∷ 0x00 ∷ 0x01 ∷ 0x00
-    ∷ 0x0A ∷ 0x00 ∷ 0x00 ∷ 0x00 ∷ 0x0B ∷ 0x00 ∷ 0x00 ∷ 0x00
-    ∷ 0x04 ∷ 0x00 ∷ 0x13 ∷ 0x00 ∷ 0x00 ∷ 0x00
-    ∷ []
-
 -- nothing for an empty tape; behind a byte that is no record, an end record 12
 formula-printed :
     (programWrites usualBegin tape ≡ printed)
     × (programWrites usualBegin [] ≡ [])
-    × (programWrites usualBegin (tape ++ 7 ∷ []) ≡ printed ++ 0x04 ∷ 0x00 ∷ 0x13 ∷ 0x00 ∷ 0x0C ∷ 0x00 ∷ [])
+    × (programWrites usualBegin (tape ++ 7 ∷ []) ≡ printed ++ 0x06 ∷ 0x00 ∷ 0x13 ∷ 0x00 ∷ 0x0C ∷ 0x00 ∷ 0x00 ∷ 0x00 ∷ [])
 unfolding all-rules programWrites tape printed requestsOf tapeOf answeredAndEnded inARow bytesOf requestBytes answerBytes layoutOf reading.read
 formula-printed = (refl, refl, refl)
 

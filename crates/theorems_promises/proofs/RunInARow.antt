@@ -8,13 +8,12 @@ use lib.ListN.{length, drop}
 use Rattle.table.specs.Table.{Full}
 use Rattle.record.specs.declared.request.Request.{Request}
 use Rattle.record.specs.declared.answer.Record.{Record}
-use Rattle.record.specs.declared.answer.Record.the-variants as R
 use Rattle.record.specs.Writing.{bytesOf}
 use Rattle.record.proofs.Written.{length-placed}
 use Rattle.rules.specs.Act.{Did, World, run, skip, _then_}
 use Rattle.rules.proofs.Runs.{run-skip, run-then}
-use Rattle.rules.specs.Calls.{verdict, verdictNumber, answered}
-use Rattle.rules.specs.Run.{room, served, runFrom, began, requestsOf}
+use Rattle.rules.specs.Calls.{verdict, endRecord, answered}
+use Rattle.rules.specs.Run.{room, served, runFrom, began, requestsOf, runRoom}
 use Rattle.rules.proofs.RunInduction.{OfRuns, AtAStop, OverARecord, run-induction}
 use Rattle.rules.proofs.TapeRequests.{first-request}
 use Rattle.theorems_soundness.specs.RuleFacts.{Whole}
@@ -26,13 +25,13 @@ use Rattle.theorems_promises.specs.InARow.{answeredAndEnded, inARow}
 -- ---- one request
 
 abbrev saidBy : Request → World → List Record
-saidBy q w = answered q (room w) (w .table) .said ++ R.End (verdictNumber (verdict q (w .table) (room w))) ∷ []
+saidBy q w = answered q (room w) (w .table) .said ++ endRecord (verdict q (w .table) (room w)) ∷ []
 
 abbrev did : Request → World → Did
 did q w = record { table = served q w .table; said = saidBy q w }
 
-module _ (q : Request) (w : World) (h : 4102 ≤ room w) where
-  same-answer : answered q (room w) (w .table) ≡ answered q 4102 (w .table)
+module _ (q : Request) (w : World) (h : runRoom ≤ room w) where
+  same-answer : answered q (room w) (w .table) ≡ answered q runRoom (w .table)
   unfolding answered
   same-answer = rw (verdict-in-a-run w q h)
 
@@ -49,7 +48,7 @@ module _ (q : Request) (w : World) (h : 4102 ≤ room w) where
     room-left = rw (served-written w full q h, length-placed) (omega arith)
 
     said-fits : length (bytesOf (saidBy q w)) ≤ room w
-    said-fits = ended-fits w full q (verdictNumber (verdict q (w .table) (room w))) h
+    said-fits = ended-fits w full q (verdict q (w .table) (room w)) h
 
     module _ (qs : List Request) where
       row-world : run w (inARow (q ∷ qs)) ≡ run (served q w) (inARow qs)

@@ -7,6 +7,7 @@ use Rattle.table.specs.Words.{tableOf}
 use Rattle.table.specs.Making.{Made}
 use Rattle.refusal.specs.declared.Answer.{Answer}
 use Rattle.refusal.specs.declared.Answer.the-variants as A
+use Rattle.refusal.specs.declared.Side.{Side}
 use Rattle.refusal.specs.declared.Refusal.{Refusal}
 use Rattle.record.specs.declared.request.Request.{Request}
 use Rattle.record.specs.declared.request.Request.the-variants as Q
@@ -20,8 +21,8 @@ pub made-is-sound : (before : List ℕ) (b n : ℕ) (after : List ℕ) → Made 
 made-is-sound before b n after h = done-sound before n after (making before b (A.Done n) after h)
 
 -- after a refusal the words are as they were
-pub not-made-is-unchanged : (before : List ℕ) (b : ℕ) (n : Refusal) (after : List ℕ) → Made before b (A.Refused n) after → after ≡ before
-not-made-is-unchanged before b n after h = refused-same before n after (making before b (A.Refused n) after h)
+pub not-made-is-unchanged : (before : List ℕ) (b : ℕ) (n : Refusal) (s : Side) (after : List ℕ) → Made before b (A.Refused n s) after → after ≡ before
+not-made-is-unchanged before b n s after h = refused-same before n s after (making before b (A.Refused n s) after h)
 
 -- so that of sound words making leaves sound words, done or refused
 pub make-keeps-sound : (before : List ℕ) (b : ℕ) (r : Answer) (after : List ℕ) → T (sound (tableOf before)) → Made before b r after → T (sound (tableOf after))

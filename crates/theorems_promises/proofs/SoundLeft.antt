@@ -11,6 +11,8 @@ use Rattle.table.proofs.WordsOfSlots.{slots-length}
 use Rattle.table.specs.Making.{fresh, beginFits, Made}
 use Rattle.refusal.specs.declared.Answer.{Answer}
 use Rattle.refusal.specs.declared.Answer.the-variants as A
+use Rattle.refusal.specs.declared.Side.{Side}
+use Rattle.refusal.specs.declared.Side.the-variants.{Neither}
 use Rattle.refusal.specs.declared.Refusal.{Refusal}
 use Rattle.refusal.specs.declared.Refusal.the-variants.{BadBegin}
 use Rattle.refusal.proofs.Numbers.{is-done, is-refused}
@@ -39,7 +41,7 @@ fresh-sound b h = let p = and→ (leb 1 b) (leb b 256) h in made-sound b (leb→
 -- done with a sound table, or refused with the words as they were
 pub data Making (before : List ℕ) (r : Answer) (after : List ℕ) : Type 0 where
   made : r ≡ A.Done 0 → T (sound (tableOf after)) → Making before r after
-  refused : r ≡ A.Refused BadBegin → after ≡ before → Making before r after
+  refused : r ≡ A.Refused BadBegin Neither → after ≡ before → Making before r after
 
 making-by :
     (fits : Bool) (before : List ℕ) (b : ℕ) (r : Answer) (after : List ℕ)
@@ -47,7 +49,7 @@ making-by :
     → MadeBy fits before b r after
     → Making before r after
 making-by true before b r after s h = made (is-done r (h .0) ∙ ap A.Done (h .1)) (rw (h .2) (s tt))
-making-by false before b r after s h = refused (is-refused r BadBegin (h .0)) (h .2)
+making-by false before b r after s h = refused (is-refused r BadBegin Neither (h .0) (h .1)) (h .3)
 
 pub making : (before : List ℕ) (b : ℕ) (r : Answer) (after : List ℕ) → Made before b r after → Making before r after
 making before b r after h = making-by (beginFits b) before b r after (fresh-sound b) h
@@ -56,9 +58,9 @@ pub done-sound : (before : List ℕ) (n : ℕ) (after : List ℕ) → Making bef
 done-sound before n after (made e s) = s
 done-sound before n after (refused e k) = let z : _≡_ {A = ℕ} 0 1 = cc in absurd (omega arith)
 
-pub refused-same : (before : List ℕ) (n : Refusal) (after : List ℕ) → Making before (A.Refused n) after → after ≡ before
-refused-same before n after (made e s) = let z : _≡_ {A = ℕ} 0 1 = cc in absurd (omega arith)
-refused-same before n after (refused e k) = k
+pub refused-same : (before : List ℕ) (n : Refusal) (s : Side) (after : List ℕ) → Making before (A.Refused n s) after → after ≡ before
+refused-same before n s after (made e k) = let z : _≡_ {A = ℕ} 0 1 = cc in absurd (omega arith)
+refused-same before n s after (refused e k) = k
 
 pub either-sound : (before : List ℕ) (r : Answer) (after : List ℕ) → T (sound (tableOf before)) → Making before r after → T (sound (tableOf after))
 either-sound before r after s (made e k) = k
@@ -74,7 +76,7 @@ module _ (words bytes : List ℕ) (r : Answer) (words′ bytes′ : List ℕ) wh
       → Outcome v act 0 words bytes r words′ bytes′
       → T (sound (tableOf words′))
   unfolding run
-  sound-by (W.Refused n) act s f h = rw (h .2) s
+  sound-by (W.Refused n u) act s f h = rw (h .3) s
   sound-by W.Accepted act s f h = let e : tableOf words′ ≡ act (tableOf words) .table = ap (λ (w : World). w .table) (h .1) in rw e (f refl)
 
   pub call-sound : (q : Request) → T (sound (tableOf words)) → Call q words bytes r words′ bytes′ → T (sound (tableOf words′))
@@ -82,7 +84,7 @@ module _ (words bytes : List ℕ) (r : Answer) (words′ bytes′ : List ℕ) wh
 
   same-by : (v : Verdict) → Outcome v list 0 words bytes r words′ bytes′ → tableOf words′ ≡ tableOf words
   unfolding run list
-  same-by (W.Refused n) h = ap tableOf (h .2)
+  same-by (W.Refused n s) h = ap tableOf (h .3)
   same-by W.Accepted h = ap (λ (w : World). w .table) (h .1)
 
   pub list-same : Call Q.List words bytes r words′ bytes′ → tableOf words′ ≡ tableOf words

@@ -62,11 +62,11 @@ sound-once words r r′ h k = h ∙ sym k
 pub reading-once : (tape : List ℕ) (r r′ : Reading) → Read tape r → Read tape r′ → r ≡ r′
 reading-once tape r r′ h k = read-of-numbers tape r h ∙ sym (read-of-numbers tape r′ k)
 
--- writing, of a request's bytes or an answer's: an equation for the bytes, the number and how many bytes were written
+-- writing, of a request's bytes or an answer's: an equation for the bytes, the number, the side and how many bytes were written
 pub writing-once :
     (bytes record-bytes bytes₁ bytes₂ : List ℕ) (pos : ℕ) (r r′ : Answer)
     → wroteOf bytes₁ r ≡ wrote (outOf bytes pos) record-bytes
     → wroteOf bytes₂ r′ ≡ wrote (outOf bytes pos) record-bytes
     → (r ≡ r′) × (bytes₁ ≡ bytes₂)
 writing-once bytes record-bytes bytes₁ bytes₂ pos r r′ h k = let e = h ∙ sym k in
-    (same-answer r r′ (ap (λ (w : Wrote). w .number) e) (ap (λ (w : Wrote). w .size) e), ap (λ (w : Wrote). w .buf) e)
+    (same-answer r r′ (ap (λ (w : Wrote). w .number) e) (ap (λ (w : Wrote). w .side) e) (ap (λ (w : Wrote). w .size) e), ap (λ (w : Wrote). w .buf) e)

@@ -12,7 +12,7 @@ use Rattle.record.specs.declared.request.Request.the-variants as Q
 use Rattle.rules.specs.Act.{worldOf}
 use Rattle.rules.specs.Calls.{actOf, verdict}
 use Rattle.rules.specs.Run.{runTape}
-use Rattle.outcome.specs.Numbered.{Called, WasReset, WasMade, Run}
+use Rattle.outcome.specs.Numbered.{Called, CalledWithSide, WasReset, WasMade, Run}
 use Rattle.theorems_promises.specs.Lent.{Lent}
 use Rattle.theorems_promises.proofs.Unique.{make-once, call-once, run-once}
 use Rattle.theorems_promises.proofs.NumbersAsAnswers.{answerOf, answered-by, number-by, madeAnswer, made-by, restOf, hands-out}
@@ -32,6 +32,18 @@ called-once q words bytes number number′ written written′ words₁ words₂ 
     let n = number-by v (actOf q) words bytes number written words₁ bytes₁ h in
     let n′ = number-by v (actOf q) words bytes number′ written′ words₂ bytes₂ k in
     (n .0 ∙ ap answerNumber (same .0) ∙ sym (n′ .0), n .1 ∙ ap answerWritten (same .0) ∙ sym (n′ .1), same .1, same .2)
+
+-- .. with the side, where it is told
+pub called-with-side-once :
+    (q : Request) (words bytes : List ℕ) (number number′ side side′ written written′ : ℕ) (words₁ words₂ bytes₁ bytes₂ : List ℕ)
+    → Lent words₁
+    → Lent words₂
+    → CalledWithSide q words bytes number side written words₁ bytes₁
+    → CalledWithSide q words bytes number′ side′ written′ words₂ bytes₂
+    → (number ≡ number′) × (side ≡ side′) × (written ≡ written′) × (words₁ ≡ words₂) × (bytes₁ ≡ bytes₂)
+called-with-side-once q words bytes number number′ side side′ written written′ words₁ words₂ bytes₁ bytes₂ l₁ l₂ h k =
+    let same = called-once q words bytes number number′ written written′ words₁ words₂ bytes₁ bytes₂ l₁ l₂ (h .0) (k .0) in
+    (same .0, h .1 ∙ sym (k .1), same .1, same .2, same .3)
 
 pub reset-once :
     (words : List ℕ) (number number′ : ℕ) (words₁ words₂ : List ℕ)

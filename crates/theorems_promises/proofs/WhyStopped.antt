@@ -18,7 +18,7 @@ use Rattle.record.specs.Fields.{decode}
 use Rattle.record.specs.Reading as reading
 use Rattle.record.proofs.Read.{Way, none, short, other, whole, way, read-none, read-short, read-length, read-whole}
 use Rattle.record.proofs.Theorems.{read-bad-exactly}
-use Rattle.rules.specs.Run.{Stop, tapeEmpty, allowanceUsed, outputFull, badRecord, Progress, Ended, stopped, advanced, goOn, room, runFrom}
+use Rattle.rules.specs.Run.{Stop, tapeEmpty, allowanceUsed, outputFull, badRecord, Progress, Ended, stopped, advanced, goOn, room, runFrom, runRoom}
 use Rattle.tape.specs.Program.{endOf}
 use Rattle.tape.specs.declared.turn.TurnEnd.the-variants.{GoesOn}
 
@@ -62,7 +62,7 @@ abbrev pub StoppedFor : Stop → Progress → Type 0
 StoppedFor tapeEmpty p = p .rest ≡ []
 StoppedFor allowanceUsed p = Unit {0}
 StoppedFor outputFull p = Unit {0}
-StoppedFor badRecord p = (p .rest ≡ [] → ⊥) × reading.Bad (p .rest) × (4102 ≤ room (p .world))
+StoppedFor badRecord p = (p .rest ≡ [] → ⊥) × reading.Bad (p .rest) × (runRoom ≤ room (p .world))
 
 pub record Why (p : Progress) (e : Ended) : Type 0 where
   pub grown : p .handled ≤ e .progress .handled
@@ -80,7 +80,7 @@ gone-on :
     → ((p : Progress) → Why p (more p))
     → (p : Progress)
     → (length (p .rest) ≡ 0 → ⊥)
-    → 4102 ≤ room (p .world)
+    → runRoom ≤ room (p .world)
     → (r : Reading)
     → reading.read (p .rest) ≡ r
     → Why p (goOn more r p)
@@ -97,9 +97,9 @@ why-stopped zero p =
     (λ _. at-once allowanceUsed p tt)
 why-stopped (suc k) p =
     let after = goOn (runFrom k) (reading.read (p .rest)) p in
-    either (Why p) (eqb (length (p .rest)) 0) (stopped tapeEmpty p) (pick (ltb (room (p .world)) 4102) (stopped outputFull p) after)
+    either (Why p) (eqb (length (p .rest)) 0) (stopped tapeEmpty p) (pick (ltb (room (p .world)) runRoom) (stopped outputFull p) after)
     (λ t. at-once tapeEmpty p (none-left (p .rest) (eqb-true _ _ t)))
-    (λ t. either (Why p) (ltb (room (p .world)) 4102) (stopped outputFull p) after
+    (λ t. either (Why p) (ltb (room (p .world)) runRoom) (stopped outputFull p) after
     (λ _. at-once outputFull p tt)
     (λ u. gone-on (runFrom k) (why-stopped k) p (eqb-false _ _ t) (ltb-false _ _ u) (reading.read (p .rest)) refl))
 
@@ -112,13 +112,13 @@ one-more : (k : ℕ) (p : Progress) (r : Reading) → OneMore p (goOn (runFrom k
 one-more k p (G.Request q size) e = omega (arith, why-stopped k (advanced q size p) .grown)
 one-more k p (G.Refused n) e = absurd (let z : _≡_ {A = ℕ} 0 1 = cc in omega arith)
 
-pub first-handled : (k : ℕ) (p : Progress) → 0 < k → 4102 ≤ room (p .world) → OneMore p (runFrom k p)
+pub first-handled : (k : ℕ) (p : Progress) → 0 < k → runRoom ≤ room (p .world) → OneMore p (runFrom k p)
 unfolding runFrom
 first-handled zero p h fits = absurd (omega arith)
 first-handled (suc k) p h fits =
     let after = goOn (runFrom k) (reading.read (p .rest)) p in
-    either (OneMore p) (eqb (length (p .rest)) 0) (stopped tapeEmpty p) (pick (ltb (room (p .world)) 4102) (stopped outputFull p) after)
+    either (OneMore p) (eqb (length (p .rest)) 0) (stopped tapeEmpty p) (pick (ltb (room (p .world)) runRoom) (stopped outputFull p) after)
     (λ t e. absurd (let z : _≡_ {A = ℕ} 0 1 = cc in omega arith))
-    (λ t. either (OneMore p) (ltb (room (p .world)) 4102) (stopped outputFull p) after
-    (λ u e. absurd (omega (arith, ltb-true (room (p .world)) 4102 u)))
+    (λ t. either (OneMore p) (ltb (room (p .world)) runRoom) (stopped outputFull p) after
+    (λ u e. absurd (omega (arith, ltb-true (room (p .world)) runRoom u)))
     (λ u. one-more k p (reading.read (p .rest))))

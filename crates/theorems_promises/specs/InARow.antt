@@ -2,22 +2,22 @@
 use Prim.Native.Nat.{ℕ}
 use mathlib.Core.List.{List, [], _∷_, _++_}
 use Rattle.record.specs.declared.request.Request.{Request}
-use Rattle.record.specs.declared.answer.Record.the-variants as R
 use Rattle.record.specs.Records.{requestBytes}
 use Rattle.rules.specs.Act.{Act, skip, _then_}
-use Rattle.rules.specs.Calls.{verdict, verdictNumber, answered}
+use Rattle.rules.specs.Calls.{verdict, endRecord, answered}
+use Rattle.rules.specs.Run.{runRoom}
 
 -- the bytes of requests one after another, as a tape holds them
 unfoldable pub tapeOf : List Request → List ℕ
 tapeOf [] = []
 tapeOf (q ∷ qs) = requestBytes q ++ tapeOf qs
 
--- one request: its records and then its end record, "0 or the refusal"; "A refused request yields only its end record". A run goes on
--- with 4,102 bytes or more, and with any such room a request is answered the same (`verdict-in-a-run` of CommandsFit).
+-- one request: its records and then its end record, "0 or the refusal" and the side; "A refused request yields only its end record".
+-- A run goes on with 4,104 bytes or more, and with any such room a request is answered the same (`verdict-in-a-run` of CommandsFit).
 unfoldable pub answeredAndEnded : Request → Act
 answeredAndEnded q t =
-    let d = answered q 4102 t in
-    record { table = d .table; said = d .said ++ R.End (verdictNumber (verdict q t 4102)) ∷ [] }
+    let d = answered q runRoom t in
+    record { table = d .table; said = d .said ++ endRecord (verdict q t runRoom) ∷ [] }
 
 -- requests in a row, each on the table that the one before it left
 unfoldable pub inARow : List Request → Act

@@ -5,6 +5,7 @@ use mathlib.Core.List.{List, [], _++_}
 use Prim.Native.Nat.{ℕ, suc, _+_, _-_, _≤_}
 use lib.ListN.{length, take, drop}
 use Rattle.record.specs.Reading.{Bad}
+use Rattle.rules.specs.Run.{runRoom}
 use Rattle.tape.specs.declared.turn.TurnEnd.{TurnEnd}
 use Rattle.tape.specs.declared.turn.TurnEnd.the-variants.{TapeRead, GoesOn, BadTape, NotSound}
 use Rattle.tape.specs.declared.turn.Turn.{Turn}
@@ -14,7 +15,7 @@ use Rattle.tape.specs.Program.{TakesTurn}
 -- is said of how it works: only that it keeps its promise.
 pub record OneTurn (words tape : List ℕ) : Type 0 where
   pub bytes : List ℕ
-  pub room : 4102 ≤ length bytes
+  pub room : runRoom ≤ length bytes
   pub told : Turn
   pub words′ : List ℕ
   pub bytes′ : List ℕ

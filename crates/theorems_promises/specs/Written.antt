@@ -4,6 +4,7 @@ use Prim.Native.Nat.{ℕ}
 use lib.ListN.{length, drop}
 use Rattle.table.specs.Making.{fresh}
 use Rattle.refusal.specs.declared.Refusal.the-variants.{BadRecord}
+use Rattle.refusal.specs.declared.Side.the-variants.{Neither}
 use Rattle.refusal.specs.Refusal.{numberOf}
 use Rattle.record.specs.declared.request.Request.{Request}
 use Rattle.record.specs.declared.answer.Record.{Record}
@@ -19,7 +20,7 @@ allRequests tape = requestsOf (length tape) tape
 -- "ends a bad tape by an end record 12": a tape is bad if something is left behind its requests
 abbrev pub endOfTape : List ℕ → List Record
 endOfTape [] = []
-endOfTape (b ∷ rest) = R.End (numberOf BadRecord) ∷ []
+endOfTape (b ∷ rest) = R.End (numberOf BadRecord) Neither ∷ []
 
 -- the answers of the requests in a row, on a fresh table, and the end of the tape
 unfoldable pub programWrites : ℕ → List ℕ → List ℕ

@@ -13,15 +13,14 @@ use Rattle.refusal.specs.declared.Verdict.the-variants as W
 use Rattle.record.specs.declared.request.Request.{Request}
 use Rattle.record.specs.declared.request.Request.the-variants as Q
 use Rattle.record.specs.declared.answer.Record.{Record}
-use Rattle.record.specs.declared.answer.Record.the-variants as R
 use Rattle.record.specs.Records.{answerBytes}
 use Rattle.record.specs.Writing.{bytesOf}
 use Rattle.rules.specs.Act.{World, skip, change}
 use Rattle.rules.specs.Sound.{sound}
 use Rattle.rules.specs.Listing.{listing}
 use Rattle.rules.specs.Refusals.{presentDefects, listChecks}
-use Rattle.rules.specs.Calls.{list, actBy, verdict, answered}
-use Rattle.rules.specs.Run.{room}
+use Rattle.rules.specs.Calls.{list, actBy, verdict, endRecord, answered}
+use Rattle.rules.specs.Run.{room, runRoom}
 use Rattle.rules.specs.Commands.{givesCommands}
 use Rattle.rules.proofs.DefectCounts.{defects-most}
 use Rattle.theorems_soundness.proofs.AcceptedRequests.{all-passed, not-no}
@@ -52,12 +51,12 @@ module _ (t : Table) (full : Full t) (space : ℕ) where
   list-by : (v : Verdict) → verdict Q.List t space ≡ v → Fits space (actBy v Q.List t .said)
   unfolding list skip
   list-by W.Accepted e = listing-bytes e
-  list-by (W.Refused n) e = nothing-fits
+  list-by (W.Refused n s) e = nothing-fits
 
   reset-by : (v : Verdict) → Fits space (actBy v Q.Reset t .said)
   unfolding change skip
   reset-by W.Accepted = nothing-fits
-  reset-by (W.Refused n) = nothing-fits
+  reset-by (W.Refused n s) = nothing-fits
 
   pub answered-bytes : (r : Request) → Fits space (answered r space t .said)
   unfolding answered
@@ -75,11 +74,12 @@ bytes-joined [] qs = omega arith
 bytes-joined (r ∷ rs) qs =
     omega (arith, length-append (answerBytes r) (bytesOf (rs ++ qs)), length-append (answerBytes r) (bytesOf rs), bytes-joined rs qs)
 
-end-size : (n : ℕ) → length (bytesOf (R.End n ∷ [])) ≡ 6
+end-size : (v : Verdict) → length (bytesOf (endRecord v ∷ [])) ≡ 8
 unfolding bytesOf answerBytes
-end-size n = refl
+end-size W.Accepted = refl
+end-size (W.Refused n s) = refl
 
-pub ended-fits : (w : World) → Full (w .table) → (r : Request) (n : ℕ) → 4102 ≤ room w → length (bytesOf (answered r (room w) (w .table) .said ++ R.End n ∷ [])) ≤ room w
-ended-fits w full r n h =
+pub ended-fits : (w : World) → Full (w .table) → (r : Request) (v : Verdict) → runRoom ≤ room w → length (bytesOf (answered r (room w) (w .table) .said ++ endRecord v ∷ [])) ≤ room w
+ended-fits w full r v h =
     let said = answered r (room w) (w .table) .said in
-    omega (arith, bytes-joined said (R.End n ∷ []), end-size n, answered-bytes (w .table) full (room w) r .0)
+    omega (arith, bytes-joined said (endRecord v ∷ []), end-size v, answered-bytes (w .table) full (room w) r .0)

@@ -43,7 +43,7 @@ only-by W.Accepted (Q.VirtualConflict c) g t = virtual-only c t
 only-by W.Accepted (Q.Expansion e) g t = expansion-only (e .node .0) t
 only-by W.Accepted Q.Reset g t = absurd g
 only-by W.Accepted Q.List g t = absurd g
-only-by (W.Refused n) r g t = tt
+only-by (W.Refused n s) r g t = tt
 
 pub answered-only : (r : Request) → T (givesCommands r) → (room : ℕ) (t : Table) → AllCommands (answered r room t .said)
 unfolding answered
@@ -62,7 +62,7 @@ module _ (t : Table) (full : Full t) (space : ℕ) where
   most-by : (r : Request) → T (givesCommands r) → (v : Verdict) → verdict r t space ≡ v → length (actBy v r t .said) ≤ 510
   unfolding skip
   most-by r g W.Accepted e = act-most r g (to-whole t full (accepted-so r g t space e .0)) e
-  most-by r g (W.Refused n) e = omega arith
+  most-by r g (W.Refused n s) e = omega arith
 
   pub answered-most : (r : Request) → T (givesCommands r) → length (answered r space t .said) ≤ 510
   unfolding answered
@@ -76,7 +76,7 @@ module _ (t : Table) (full : Full t) (space : ℕ) where
   fits-by : (r : Request) → T (givesCommands r) → (v : Verdict) → verdict r t space ≡ v → length (bytesOf (answered r space t .said)) ≤ space
   unfolding answered skip bytesOf
   fits-by r g W.Accepted e = omega (arith, answered-size r g, accepted-so r g t space e .1)
-  fits-by r g (W.Refused n) e = rw e (omega arith)
+  fits-by r g (W.Refused n s) e = rw e (omega arith)
 
   pub answered-fits : (r : Request) → T (givesCommands r) → length (bytesOf (answered r space t .said)) ≤ space
   answered-fits r g = fits-by r g (verdict r t space) refl

@@ -21,7 +21,7 @@ unfolding answerBytes
 command-size (R.Speed n s) h = omega arith
 command-size (R.Create n) h = omega arith
 command-size (R.Expand n) h = omega arith
-command-size (R.End e) h = absurd h
+command-size (R.End e s) h = absurd h
 command-size (R.Pair p) h = absurd h
 command-size (R.VirtualPair p) h = absurd h
 

@@ -1,5 +1,5 @@
 -- How many commands a request gives; that with the room that it asks for all that a request says is written; and that a run, which
--- goes on with 4,102 bytes or more, drops nothing. The work is in the other files.
+-- goes on with 4,104 bytes or more, drops nothing. The work is in the other files.
 --
 -- A match is two commands. Augmenting matches each − node of the tree with its child, and each − node on the way from the node
 -- to the root once more, with its parent: at most four commands a − node. A − node has a child of its own, and a root is neither
@@ -13,6 +13,7 @@ use native.Mathlib.Omega.{arith}
 use lib.Dec.{T}
 use lib.ListN.{length, take, drop}
 use Rattle.table.specs.Table.{Table, Full}
+use Rattle.refusal.specs.declared.Side.{Side}
 use Rattle.refusal.specs.declared.Refusal.the-variants.{NoCommandRoom, NoListingRoom}
 use Rattle.refusal.specs.declared.Verdict.the-variants as W
 use Rattle.record.specs.declared.request.Conflict.{Conflict}
@@ -20,14 +21,13 @@ use Rattle.record.specs.declared.request.VirtualConflict.{VirtualConflict}
 use Rattle.record.specs.declared.request.Request.{Request}
 use Rattle.record.specs.declared.request.Request.the-variants as Q
 use Rattle.record.specs.declared.answer.Record.{Record}
-use Rattle.record.specs.declared.answer.Record.the-variants as R
 use Rattle.record.specs.Writing.{Out, outOf, placed, writeAll, bytesOf}
 use Rattle.record.proofs.Theorems.{placed-split}
 use Rattle.rules.specs.Act.{World}
 use Rattle.rules.specs.Conflict.{conflict, virtualConflict}
 use Rattle.rules.specs.Sound.{sound}
-use Rattle.rules.specs.Calls.{verdict, verdictNumber, answered}
-use Rattle.rules.specs.Run.{room, served}
+use Rattle.rules.specs.Calls.{verdict, endRecord, answered}
+use Rattle.rules.specs.Run.{room, served, runRoom}
 use Rattle.theorems_soundness.proofs.Wholes.{to-whole}
 use Rattle.theorems_requests.proofs.CommandBytes.{written-all, commands-fit}
 use Rattle.theorems_requests.proofs.RequestCommands.{conflict-most, virtual-most}
@@ -90,27 +90,27 @@ pub answered-written :
 answered-written t full o r =
     written-all o (answered r (length (o .buf) - o .pos) t .said) (answered-bytes t full (length (o .buf) - o .pos) r .1)
 
--- in a run, which stops at "output below 4,102 bytes", nothing is dropped: the end record fits as well
+-- in a run, which stops at "output below 4,104 bytes", nothing is dropped: the end record fits as well
 pub served-written :
     (w : World)
     → Full (w .table)
     → (r : Request)
-    → 4102 ≤ room w
-    → let said = answered r (room w) (w .table) .said ++ R.End (verdictNumber (verdict r (w .table) (room w))) ∷ [] in
+    → runRoom ≤ room w
+    → let said = answered r (room w) (w .table) .said ++ endRecord (verdict r (w .table) (room w)) ∷ [] in
     served r w .out ≡ outOf (placed (w .out .buf) (w .out .pos) (bytesOf said)) (w .out .pos + length (bytesOf said))
 unfolding served
 served-written w full r h =
-    written-all (w .out) (answered r (room w) (w .table) .said ++ R.End (verdictNumber (verdict r (w .table) (room w))) ∷ [])
-    (ended-fits w full r (verdictNumber (verdict r (w .table) (room w))) h)
+    written-all (w .out) (answered r (room w) (w .table) .said ++ endRecord (verdict r (w .table) (room w)) ∷ [])
+    (ended-fits w full r (verdict r (w .table) (room w)) h)
 
 -- and no request is refused for the room: 9, "command room below 4,096 bytes", and 10, "listing room below 16 bytes for each
 -- present defect", are not given where a run goes on, whatever the table
 pub no-room-refusal :
-    (w : World) (r : Request)
-    → 4102 ≤ room w
-    → (verdict r (w .table) (room w) ≢ W.Refused NoCommandRoom) × (verdict r (w .table) (room w) ≢ W.Refused NoListingRoom)
-no-room-refusal w r h = room-enough r (w .table) (room w) h
+    (w : World) (r : Request) (s : Side)
+    → runRoom ≤ room w
+    → (verdict r (w .table) (room w) ≢ W.Refused NoCommandRoom s) × (verdict r (w .table) (room w) ≢ W.Refused NoListingRoom s)
+no-room-refusal w r s h = room-enough r (w .table) (room w) s h
 
 -- so in a run the verdict does not depend on the room
-pub verdict-in-a-run : (w : World) (r : Request) → 4102 ≤ room w → verdict r (w .table) (room w) ≡ verdict r (w .table) 4102
+pub verdict-in-a-run : (w : World) (r : Request) → runRoom ≤ room w → verdict r (w .table) (room w) ≡ verdict r (w .table) runRoom
 verdict-in-a-run w r h = same-verdict r (w .table) (room w) h

@@ -39,3 +39,5 @@ pub mod TwoRequests
 pub mod StillApart
 pub mod Reordering
 pub mod AnyOrder
+pub mod SideChecks
+pub mod SidesNamed

@@ -11,6 +11,7 @@ use Rattle.table.specs.Table.{Table, at}
 use Rattle.table.specs.Nodes.{outer}
 use Rattle.table.specs.Place.{inTree}
 use Rattle.refusal.specs.declared.Refusal.the-variants as N
+use Rattle.refusal.specs.declared.Side.the-variants.{First, Second}
 use Rattle.refusal.specs.declared.Verdict.the-variants as W
 use Rattle.record.specs.declared.request.Conflict.{Conflict}
 use Rattle.record.specs.declared.request.VirtualConflict.{VirtualConflict}
@@ -22,7 +23,7 @@ use Rattle.rules.specs.Sound.{sound, isDefectInside}
 use Rattle.rules.specs.Trees.{seen}
 use Rattle.rules.specs.Blossom.{lacksBlossomSlot}
 use Rattle.theorems_soundness.specs.FactsOfBlossoms.{Inside}
-use Rattle.rules.specs.Refusals.{Check, firstOf, _when_, lacksCommandRoom, isNoVertex, makesBlossom, conflictNodeChecks, virtualNodeChecks, expansionNodeChecks, conflictLacksSlot}
+use Rattle.rules.specs.Refusals.{Check, firstOf, _when_, _on_when_, lacksCommandRoom, isNoVertex, makesBlossom, conflictNodeChecks, virtualNodeChecks, expansionNodeChecks, conflictLacksSlot}
 use Rattle.rules.specs.Calls.{actOf, verdict}
 use Rattle.rules.specs.Concerns.{isMaking}
 use Rattle.theorems_soundness.proofs.ChildLaws.{first-child, shrink-is-minus, child-of-shrink}
@@ -111,10 +112,13 @@ module _ (S : ℕ → Type 0) (t u : Table) (a : Alike S t u) where
     where
       checked : Slot → Slot → Bool → Bool → Bool → List Check
       checked s r i j k =
-          N.NoSuchNode when ((leb 256 (c .«node_1» .0) || not (isPresent (s .state))) || (leb 256 (c .«node_2» .0) || not (isPresent (r .state))) || isNoVertex (c .«vertex_1» .0) || isNoVertex (c .«vertex_2» .0))
-          ∷ N.NotOuter when (not (isOuter (s .state)) || not (isOuter (r .state)))
+          N.NoSuchNode on First when ((leb 256 (c .«node_1» .0) || not (isPresent (s .state))) || isNoVertex (c .«vertex_1» .0))
+          ∷ N.NoSuchNode on Second when ((leb 256 (c .«node_2» .0) || not (isPresent (r .state))) || isNoVertex (c .«vertex_2» .0))
+          ∷ N.NotOuter on First when not (isOuter (s .state))
+          ∷ N.NotOuter on Second when not (isOuter (r .state))
           ∷ N.SameNode when eqb (c .«node_1» .0) (c .«node_2» .0)
-          ∷ N.TouchOutside when (not i || not j)
+          ∷ N.TouchOutside on First when not i
+          ∷ N.TouchOutside on Second when not j
           ∷ N.NotGrowing when (isShrink (s .state) || isShrink (r .state) || not (isGrow (s .state) || isGrow (r .state)))
           ∷ N.NoBlossomSlot when k
           ∷ []
@@ -140,9 +144,10 @@ module _ (S : ℕ → Type 0) (t u : Table) (a : Alike S t u) where
     where
       checked : Slot → Bool → List Check
       checked s i =
-          N.NoSuchNode when ((leb 256 (c .node .0) || not (isPresent (s .state))) || isNoVertex (c .vertex .0) || isNoVertex (c .«virtual_vertex» .0))
-          ∷ N.NotOuter when not (isOuter (s .state))
-          ∷ N.TouchOutside when not i
+          N.NoSuchNode on First when ((leb 256 (c .node .0) || not (isPresent (s .state))) || isNoVertex (c .vertex .0))
+          ∷ N.NoSuchNode on First when isNoVertex (c .«virtual_vertex» .0)
+          ∷ N.NotOuter on First when not (isOuter (s .state))
+          ∷ N.TouchOutside on First when not i
           ∷ N.NotGrowing when not (isGrow (s .state))
           ∷ []
 

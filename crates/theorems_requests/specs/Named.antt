@@ -23,7 +23,7 @@ abbrev pub namedBy : Record → List ℕ
 namedBy (R.Speed n s) = []
 namedBy (R.Create n) = []
 namedBy (R.Expand n) = []
-namedBy (R.End e) = []
+namedBy (R.End e s) = []
 namedBy (R.Pair p) = p .node .0 ∷ p .peer .0 ∷ []
 namedBy (R.VirtualPair p) = p .node .0 ∷ []
 

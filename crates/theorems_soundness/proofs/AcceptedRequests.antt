@@ -14,6 +14,7 @@ use Rattle.slot.specs.Number.{noVertex}
 use Rattle.table.specs.Table.{Table, at}
 use Rattle.table.specs.Nodes.{isBlossom, isDefect}
 use Rattle.table.specs.Climb.{inside}
+use Rattle.refusal.specs.declared.Side.{Side}
 use Rattle.refusal.specs.declared.Refusal.{Refusal}
 use Rattle.refusal.specs.declared.Verdict.{Verdict}
 use Rattle.refusal.specs.declared.Verdict.the-variants as W
@@ -34,9 +35,9 @@ use Rattle.theorems_soundness.proofs.Climbing.{inside→}
 
 -- ---- "The first that applies is given": none applies
 
-passed : (b : Bool) (r : Refusal) (v : Verdict) → pick b (W.Refused r) v ≡ W.Accepted → (b ≡ false) × (v ≡ W.Accepted)
-passed true r v e = let z : _≡_ {A = ℕ} 0 1 = cc in absurd (omega arith)
-passed false r v e = (refl, e)
+passed : (b : Bool) (r : Refusal) (s : Side) (v : Verdict) → pick b (W.Refused r s) v ≡ W.Accepted → (b ≡ false) × (v ≡ W.Accepted)
+passed true r s v e = let z : _≡_ {A = ℕ} 0 1 = cc in absurd (omega arith)
+passed false r s v e = (refl, e)
 
 -- each test in turn
 abbrev pub AllPassed : List Check → Type 0
@@ -45,7 +46,7 @@ AllPassed (c ∷ cs) = (c .applies ≡ false) × AllPassed cs
 
 pub all-passed : (cs : List Check) → firstOf cs ≡ W.Accepted → AllPassed cs
 all-passed [] e = tt
-all-passed (c ∷ cs) e = let r = passed (c .applies) (c .refusal) (firstOf cs) e in (r .0, all-passed cs (r .1))
+all-passed (c ∷ cs) e = let r = passed (c .applies) (c .refusal) (c .side) (firstOf cs) e in (r .0, all-passed cs (r .1))
 
 pub or-no : (a b : Bool) → (a || b) ≡ false → (a ≡ false) × (b ≡ false)
 or-no true b e = let z : _≡_ {A = ℕ} 0 1 = cc in absurd (omega arith)
@@ -87,24 +88,23 @@ acceptable t room c e =
     let y = c .«node_2» .0 in
     let v = c .«vertex_1» .0 in
     let u = c .«vertex_2» .0 in
-    let r = all-passed (conflictChecks t room c) e in
-    let named = or-no (isNoNode t x || isNoNode t y || isNoVertex v) (isNoVertex u) (r .1 .1 .0) in
-    let first = or-no (isNoNode t x || isNoNode t y) (isNoVertex v) (named .0) in
-    let outers = or-no (isNotOuter t x) (isNotOuter t y) (r .1 .1 .1 .0) in
-    let touches = or-no (isOutside t x (c .«touch_1» .0)) (isOutside t y (c .«touch_2» .0)) (r .1 .1 .1 .1 .1 .0) in
-    let growing = or-no (isMinusNode t x || isMinusNode t y) (not (isGrowing t x || isGrowing t y)) (r .1 .1 .1 .1 .1 .1 .0) in
+    let r = all-passed (conflictChecks t room c) e .1 .1 in
+    let touches = r .1 .1 .1 .1 .1 in
+    let first = or-no (isNoNode t x) (isNoVertex v) (r .0) in
+    let second = or-no (isNoNode t y) (isNoVertex u) (r .1 .0) in
+    let growing = or-no (isMinusNode t x || isMinusNode t y) (not (isGrowing t x || isGrowing t y)) (touches .1 .1 .0) in
     let minus = or-no (isMinusNode t x) (isMinusNode t y) (growing .0) in
     record {
-      outer-1 = not-no (isOuter (seen t x .state)) (outers .0);
-      outer-2 = not-no (isOuter (seen t y .state)) (outers .1);
+      outer-1 = not-no (isOuter (seen t x .state)) (r .1 .1 .0);
+      outer-2 = not-no (isOuter (seen t y .state)) (r .1 .1 .1 .0);
       two = λ q. no-test (eqb x y) (r .1 .1 .1 .1 .0) (simp tests q);
       inside-1 = defect-inside t x (c .«touch_1» .0) (touches .0);
-      inside-2 = defect-inside t y (c .«touch_2» .0) (touches .1);
+      inside-2 = defect-inside t y (c .«touch_2» .0) (touches .1 .0);
       vertex-1 = vertex-some v (first .1);
-      vertex-2 = vertex-some u (named .1);
+      vertex-2 = vertex-some u (second .1);
       not-minus-1 = λ q. no-test (isMinusNode t x) (minus .0) (shrink↔ (seen t x .state) .1 q);
       not-minus-2 = λ q. no-test (isMinusNode t y) (minus .1) (shrink↔ (seen t y .state) .1 q);
-      slot = r .1 .1 .1 .1 .1 .1 .1 .0;
+      slot = touches .1 .1 .1 .0;
     }
 
 -- ---- a virtual conflict
@@ -122,15 +122,14 @@ acceptable-virtual t room c e =
     let x = c .node .0 in
     let v = c .vertex .0 in
     let u = c .«virtual_vertex» .0 in
-    let r = all-passed (virtualChecks t room c) e in
-    let named = or-no (isNoNode t x || isNoVertex v) (isNoVertex u) (r .1 .1 .0) in
-    let first = or-no (isNoNode t x) (isNoVertex v) (named .0) in
+    let r = all-passed (virtualChecks t room c) e .1 .1 in
+    let first = or-no (isNoNode t x) (isNoVertex v) (r .0) in
     record {
-      outer = not-no (isOuter (seen t x .state)) (r .1 .1 .1 .0);
-      inside = defect-inside t x (c .touch .0) (r .1 .1 .1 .1 .0);
+      outer = not-no (isOuter (seen t x .state)) (r .1 .1 .0);
+      inside = defect-inside t x (c .touch .0) (r .1 .1 .1 .0);
       vertex = vertex-some v (first .1);
-      virtual = vertex-some u (named .1);
-      grows = grow↔ (seen t x .state) .0 (not-no (isGrowing t x) (r .1 .1 .1 .1 .1 .0));
+      virtual = vertex-some u (r .1 .0);
+      grows = grow↔ (seen t x .state) .0 (not-no (isGrowing t x) (r .1 .1 .1 .1 .0));
     }
 
 -- ---- an expansion

@@ -30,7 +30,7 @@ act-keeps Q.List room t w e = w
 by-verdict : (r : Request) (room : ℕ) (t : Table) → Whole t → (v : Verdict) → verdict r t room ≡ v → Whole (actBy v r t .table)
 unfolding skip
 by-verdict r room t w W.Accepted e = act-keeps r room t w e
-by-verdict r room t w (W.Refused n) e = w
+by-verdict r room t w (W.Refused n s) e = w
 
 pub answered-keeps : (r : Request) (room : ℕ) (t : Table) → Whole t → Whole (answered r room t .table)
 unfolding answered

@@ -12,7 +12,7 @@ list-spec =
     tie.close
     (tie.spec
     (λ c κs. search needs)
-    (λ c. refused-by _ _ _ _ _ _ (unsound-verdict _ _ _ (sym (c .before .is-sound .ensures) ∙ not-true _ (c .if1 .taken))))
+    (λ c. refused-by _ _ _ _ _ _ _ (unsound-verdict _ _ _ (sym (c .before .is-sound .ensures) ∙ not-true _ (c .if1 .taken))))
     (λ c κs. search needs)
     (λ c. search needs)
     (λ c.

@@ -10,7 +10,7 @@ use Rattle.primal.proofs.reset.Tie as tie
 pub reset-spec : {M : Type 1} → statement M
 reset-spec = tie.close (tie.spec
     (λ c κs. search needs)
-    (λ c. refused-by _ _ _ _ _ _ (unsound-verdict _ _ _ (sym (c .before .is-sound .ensures) ∙ not-true _ (c .if1 .taken))))
+    (λ c. refused-by _ _ _ _ _ _ _ (unsound-verdict _ _ _ (sym (c .before .is-sound .ensures) ∙ not-true _ (c .if1 .taken))))
     (λ c κs. search needs)
     (λ c.
     let s = sym (c .before .before .before .is-sound .ensures) ∙ not-false _ (c .before .before .if1 .left) in

@@ -9,5 +9,6 @@ end-spec =
     tie.close
     (tie.spec
     (λ c κs. search needs)
+    (λ c κs. search needs)
     (λ c. search needs)
-    (λ c. c .before .before .narrow-3 .ensures))
+    (λ c. rw (← (c .before .before .before .before .side-number .ensures)) (c .before .before .narrow-4 .ensures)))
