@@ -16,7 +16,7 @@ use Rattle.record.specs.declared.request.Expansion.{Expansion}
 use Rattle.rules.specs.Slots.{isGrow}
 use Rattle.rules.specs.Trees.{seen}
 use Rattle.rules.specs.Blossom.{lacksBlossomSlot}
-use Rattle.rules.specs.Refusals.{firstOf, makesBlossom, isNoNode, isNoVertex, isNoSide, isNotOuter, isOutside, isGrowing, isNotExpandable, conflictNotGrowing, conflictLacksSlot, conflictNodeChecks, virtualNodeChecks, expansionNodeChecks}
+use Rattle.rules.specs.Refusals.{firstOf, makesBlossom, isNoVertex, isNotOuter, isOutside, isGrowing, isNotExpandable, conflictNotGrowing, conflictLacksSlot, conflictNodeChecks, virtualNodeChecks, expansionNodeChecks}
 use Rattle.request_judging.specs.Seen.{seenState, noneGrowing, elsewhere}
 use Rattle.request_judging.proofs.SeenLaws.{side-read, state-read, outside-elsewhere}
 

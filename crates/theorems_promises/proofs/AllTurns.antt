@@ -8,7 +8,6 @@ use native.Mathlib.Omega.{arith}
 use lib.Dec.{T}
 use lib.ListN.{length, drop}
 use lib.Seq.{drop-append-seam}
-use Rattle.lists.specs.Choice.{pick}
 use Rattle.table.specs.Words.{tableOf}
 use Rattle.table.specs.Making.{fresh, beginFits, Made}
 use Rattle.refusal.specs.declared.Answer.the-variants as A

@@ -13,7 +13,9 @@ use Rattle.table.specs.Making.{fresh}
 use Rattle.refusal.specs.declared.Answer.{Answer}
 use Rattle.refusal.specs.declared.Answer.the-variants as A
 use Rattle.refusal.specs.declared.Side.{Side}
+use Rattle.refusal.specs.declared.Side.the-variants.{First, Second}
 use Rattle.refusal.specs.declared.Refusal.{Refusal}
+use Rattle.refusal.specs.declared.Refusal.the-variants.{NoSuchNode}
 use Rattle.refusal.specs.declared.Verdict.the-variants as W
 use Rattle.record.specs.declared.request.Request.{Request}
 use Rattle.record.specs.Kinds.{layoutOf}
@@ -24,12 +26,13 @@ use Rattle.rules.specs.Run.{Ran, unsound, ran, runTape}
 use Rattle.outcome.specs.Tape.{HandsOut, Tape}
 use Rattle.rules.specs.Act.{World, worldOf}
 use Rattle.rules.specs.Calls.{actOf, verdict}
-use Rattle.rules.specs.Script.{join}
+use Rattle.rules.specs.Script.{meet, join}
 use Rattle.rules.proofs.Script.{all-rules}
 use Rattle.outcome.specs.Call.{Call}
-use Rattle.refusal.specs.Refusal.{answerWritten}
+use Rattle.refusal.specs.Refusal.{answerSide, answerWritten}
 use Rattle.theorems_promises.specs.LazyPorts.{room, Fresh, tape}
 use Rattle.theorems_promises.proofs.Accepted.{done}
+use Rattle.theorems_promises.proofs.BytesLeft.{refused-left}
 
 -- 1 in Stay and 0 elsewhere, to tell two tables apart
 abbrev isStaying : State → ℕ
@@ -129,6 +132,19 @@ module _ (words words′ bytes′ rest : List ℕ) (stop refusal handled written
 pub refuses-everything : (words words′ bytes′ : List ℕ) (n : Refusal) (s : Side) → Fresh words → ¬ Call (join 0 1) words room (A.Refused n s) words′ bytes′
 refuses-everything words words′ bytes′ n s made h =
     refused-not-done n s (answerWritten (A.Refused n s)) (is-done (join 0 1) words words′ bytes′ (A.Refused n s) made first-accepted h)
+
+-- one that names side 1 whatever fails, with any number
+names-second : verdict (meet 0 256 0 1 10 11) (fresh 128) 4200 ≡ W.Refused NoSuchNode Second
+unfolding all-rules
+names-second = refl
+
+pub always-side-1 : (words words′ bytes′ : List ℕ) (n : Refusal) → Fresh words → ¬ Call (meet 0 256 0 1 10 11) words room (A.Refused n First) words′ bytes′
+always-side-1 words words′ bytes′ n made h =
+    let q : Request = meet 0 256 0 1 10 11 in
+    let e : verdict q (tableOf words) (length room) ≡ W.Refused NoSuchNode Second = rw (made, length-room) names-second in
+    let same = refused-left q words room (A.Refused n First) words′ bytes′ NoSuchNode Second e h .0 in
+    let sides = ap answerSide same in
+    absurd (omega arith)
 
 -- one that hands the table back and claims success, whatever it writes
 pub hands-it-back : (words bytes′ : List ℕ) (r : Answer) → Fresh words → ¬ Call (join 0 1) words room r words bytes′

@@ -2,16 +2,17 @@
 use mathlib.Core.Path.{_≡_, refl, ap, ap₂, sym, _∙_}
 use mathlib.Core.Logic.{_≢_, inl, inr}
 use mathlib.Core.Bool.{Bool, true, false, not, _&&_, _||_}
-use mathlib.Core.List.{List, [], _∷_}
+use mathlib.Core.List.{List, _∷_}
 use Prim.Native.Nat.{ℕ, _+_}
-use lib.Dec.{T, eqb, leb}
+use lib.Dec.{T, leb}
 use Rattle.slot.specs.State.{isOuter, isPresent}
 use Rattle.slot.specs.Slot.{Slot}
 use Rattle.table.specs.Table.{Table, at}
 use Rattle.table.specs.Nodes.{outer}
 use Rattle.table.specs.Place.{inTree}
 use Rattle.refusal.specs.declared.Refusal.the-variants as N
-use Rattle.refusal.specs.declared.Side.the-variants.{First, Second}
+use Rattle.refusal.specs.declared.Refusal.{Refusal}
+use Rattle.refusal.specs.declared.Side.{Side}
 use Rattle.refusal.specs.declared.Verdict.the-variants as W
 use Rattle.record.specs.declared.request.Conflict.{Conflict}
 use Rattle.record.specs.declared.request.VirtualConflict.{VirtualConflict}
@@ -19,11 +20,10 @@ use Rattle.record.specs.declared.request.Expansion.{Expansion}
 use Rattle.record.specs.declared.request.Request.{Request}
 use Rattle.record.specs.declared.request.Request.the-variants as Q
 use Rattle.rules.specs.Slots.{isGrow, isShrink, up}
-use Rattle.rules.specs.Sound.{sound, isDefectInside}
-use Rattle.rules.specs.Trees.{seen}
+use Rattle.rules.specs.Sound.{sound}
 use Rattle.rules.specs.Blossom.{lacksBlossomSlot}
 use Rattle.theorems_soundness.specs.FactsOfBlossoms.{Inside}
-use Rattle.rules.specs.Refusals.{Check, firstOf, _when_, _on_when_, lacksCommandRoom, isNoVertex, makesBlossom, conflictNodeChecks, virtualNodeChecks, expansionNodeChecks, conflictLacksSlot}
+use Rattle.rules.specs.Refusals.{Check, firstOf, _when_, _on_when_, lacksCommandRoom, isNoVertex, isNoSide, isNotOuter, isOutside, conflictNotGrowing, makesBlossom, conflictNodeChecks, virtualNodeChecks, expansionNodeChecks}
 use Rattle.rules.specs.Calls.{actOf, verdict}
 use Rattle.rules.specs.Concerns.{isMaking}
 use Rattle.theorems_soundness.proofs.ChildLaws.{first-child, shrink-is-minus, child-of-shrink}
@@ -82,6 +82,10 @@ module _ (t : Table) (room : ℕ) (w : Whole t) (u : Table) where
 
 -- ---- what is answered
 
+-- lists of checks are alike if their tests are, one by one
+check-alike : {b b′ : Bool} {r : Refusal} {s : Side} {cs cs′ : List Check} → b ≡ b′ → cs ≡ cs′ → _≡_ {A = List Check} (r on s when b ∷ cs) (r on s when b′ ∷ cs′)
+check-alike e f = rw (e, f)
+
 -- the tests read what the checks see of the named nodes, and climb from the touches
 module _ (S : ℕ → Type 0) (t u : Table) (a : Alike S t u) where
   pub makes-alike : (x y : ℕ) → S x → S y → makesBlossom t x y ≡ makesBlossom u x y
@@ -95,6 +99,20 @@ module _ (S : ℕ → Type 0) (t u : Table) (a : Alike S t u) where
       go true k = ap₂ (λ (x y : ℕ). leb 256 (x + y)) (a .begin) (k tt)
       go false k = refl
 
+  no-side-alike : (n v : ℕ) → S n → isNoSide t n v ≡ isNoSide u n v
+  no-side-alike n v p = ap (λ (s : Slot). (leb 256 n || not (isPresent (s .state))) || isNoVertex v) (seen-alike S t u a n p)
+
+  not-outer-alike : (n : ℕ) → S n → isNotOuter t n ≡ isNotOuter u n
+  not-outer-alike n p = ap (λ (s : Slot). not (isOuter (s .state))) (seen-alike S t u a n p)
+
+  outside-alike : (n touch : ℕ) → S touch → isOutside t n touch ≡ isOutside u n touch
+  outside-alike n touch m = ap not (defect-inside-alike S t u a n touch m)
+
+  not-growing-alike : (c : Conflict) → S (c .«node_1» .0) → S (c .«node_2» .0) → conflictNotGrowing t c ≡ conflictNotGrowing u c
+  not-growing-alike c p q =
+      ap₂ (λ (s r : Slot). isShrink (s .state) || isShrink (r .state) || not (isGrow (s .state) || isGrow (r .state)))
+      (seen-alike S t u a (c .«node_1» .0) p) (seen-alike S t u a (c .«node_2» .0) q)
+
   conflict-checks-alike :
       (c : Conflict)
       → S (c .«node_1» .0)
@@ -107,53 +125,29 @@ module _ (S : ℕ → Type 0) (t u : Table) (a : Alike S t u) where
   conflict-checks-alike c p q m n h =
       let x = c .«node_1» .0 in
       let y = c .«node_2» .0 in
-      seen-as (seen u x) (seen u y) (isDefectInside u x (c .«touch_1» .0)) (isDefectInside u y (c .«touch_2» .0)) (conflictLacksSlot u c)
-      (seen-alike S t u a x p) (seen-alike S t u a y q) (defect-inside-alike S t u a x (c .«touch_1» .0) m) (defect-inside-alike S t u a y (c .«touch_2» .0) n) (lacks-alike x y p q h)
-    where
-      checked : Slot → Slot → Bool → Bool → Bool → List Check
-      checked s r i j k =
-          N.NoSuchNode on First when ((leb 256 (c .«node_1» .0) || not (isPresent (s .state))) || isNoVertex (c .«vertex_1» .0))
-          ∷ N.NoSuchNode on Second when ((leb 256 (c .«node_2» .0) || not (isPresent (r .state))) || isNoVertex (c .«vertex_2» .0))
-          ∷ N.NotOuter on First when not (isOuter (s .state))
-          ∷ N.NotOuter on Second when not (isOuter (r .state))
-          ∷ N.SameNode when eqb (c .«node_1» .0) (c .«node_2» .0)
-          ∷ N.TouchOutside on First when not i
-          ∷ N.TouchOutside on Second when not j
-          ∷ N.NotGrowing when (isShrink (s .state) || isShrink (r .state) || not (isGrow (s .state) || isGrow (r .state)))
-          ∷ N.NoBlossomSlot when k
-          ∷ []
-
-      seen-as :
-          (s r : Slot) (i j k : Bool)
-          → seen t (c .«node_1» .0) ≡ s
-          → seen t (c .«node_2» .0) ≡ r
-          → isDefectInside t (c .«node_1» .0) (c .«touch_1» .0) ≡ i
-          → isDefectInside t (c .«node_2» .0) (c .«touch_2» .0) ≡ j
-          → conflictLacksSlot t c ≡ k
-          → checked (seen t (c .«node_1» .0)) (seen t (c .«node_2» .0)) (isDefectInside t (c .«node_1» .0) (c .«touch_1» .0)) (isDefectInside t (c .«node_2» .0) (c .«touch_2» .0)) (conflictLacksSlot t c)
-          ≡ checked s r i j k
-      seen-as s r i j k d e f g h =
-          ap₂ (λ (x y : Slot). checked x y (isDefectInside t (c .«node_1» .0) (c .«touch_1» .0)) (isDefectInside t (c .«node_2» .0) (c .«touch_2» .0)) (conflictLacksSlot t c)) d e
-          ∙ ap₂ (λ (x y : Bool). checked s r x y (conflictLacksSlot t c)) f g
-          ∙ ap (checked s r i j) h
+      check-alike (no-side-alike x (c .«vertex_1» .0) p)
+      (check-alike (no-side-alike y (c .«vertex_2» .0) q)
+      (check-alike (not-outer-alike x p)
+      (check-alike (not-outer-alike y q)
+      (check-alike refl
+      (check-alike (outside-alike x (c .«touch_1» .0) m)
+      (check-alike (outside-alike y (c .«touch_2» .0) n)
+      (check-alike (not-growing-alike c p q)
+      (check-alike (lacks-alike x y p q h) refl))))))))
 
   virtual-checks-alike : (c : VirtualConflict) → S (c .node .0) → S (c .touch .0) → virtualNodeChecks t c ≡ virtualNodeChecks u c
   unfolding virtualNodeChecks
   virtual-checks-alike c p m =
-      ap₂ checked (seen-alike S t u a (c .node .0) p) (defect-inside-alike S t u a (c .node .0) (c .touch .0) m)
-    where
-      checked : Slot → Bool → List Check
-      checked s i =
-          N.NoSuchNode on First when ((leb 256 (c .node .0) || not (isPresent (s .state))) || isNoVertex (c .vertex .0))
-          ∷ N.NoSuchNode on First when isNoVertex (c .«virtual_vertex» .0)
-          ∷ N.NotOuter on First when not (isOuter (s .state))
-          ∷ N.TouchOutside on First when not i
-          ∷ N.NotGrowing when not (isGrow (s .state))
-          ∷ []
+      let x = c .node .0 in
+      check-alike (no-side-alike x (c .vertex .0) p)
+      (check-alike refl
+      (check-alike (not-outer-alike x p)
+      (check-alike (outside-alike x (c .touch .0) m)
+      (check-alike (ap (λ (s : Slot). not (isGrow (s .state))) (seen-alike S t u a x p)) refl))))
 
   expansion-checks-alike : (e : Expansion) → S (e .node .0) → expansionNodeChecks t e ≡ expansionNodeChecks u e
   unfolding expansionNodeChecks
-  expansion-checks-alike e p = ap₂ (λ (b : ℕ) (s : Slot). N.NotExpandable when not (leb b (e .node .0) && isShrink (s .state)) ∷ []) (a .begin) (a .agree (e .node .0) p)
+  expansion-checks-alike e p = check-alike (ap₂ (λ (b : ℕ) (s : Slot). not (leb b (e .node .0) && isShrink (s .state))) (a .begin) (a .agree (e .node .0) p)) refl
 
 module _ (t : Table) (room : ℕ) (w : Whole t) (u : Table) where
   -- on two sound tables and with one room, the node tests decide

@@ -26,7 +26,7 @@ use Rattle.rules.specs.Slots.{isShrink}
 use Rattle.rules.specs.Sound.{isDefectInside}
 use Rattle.rules.specs.Trees.{seen}
 use Rattle.rules.specs.Blossom.{lacksBlossomSlot}
-use Rattle.rules.specs.Refusals.{Check, firstOf, conflictChecks, virtualChecks, expansionChecks, isNotOuter, isOutside, isMinusNode, isGrowing, isNoNode, makesBlossom, isNoVertex, conflictNodeChecks, virtualNodeChecks, expansionNodeChecks}
+use Rattle.rules.specs.Refusals.{Check, firstOf, conflictChecks, virtualChecks, expansionChecks, isOutside, isMinusNode, isGrowing, isNoNode, makesBlossom, isNoVertex, conflictNodeChecks, virtualNodeChecks, expansionNodeChecks}
 use Rattle.rules.specs.Calls.{verdict}
 use Rattle.theorems_soundness.specs.FactsOfBlossoms.{DefectInside}
 use Rattle.theorems_soundness.proofs.Reflect.{and→, tests}
