@@ -12,7 +12,7 @@ use table::Table;
 use table::climb;
 use text::reasons;
 
-// 3: the node, or the vertex that it touches.
+// 3: the node, or the vertex that it touches; where neither, the virtual vertex.
 pub fn no_side(t: &Table, n: Node, v: Vertex) -> Reason {
     if 256 <= n.0 {
         return of_node(reasons::PAST_THE_TABLE, n);

@@ -25,7 +25,7 @@ pub fn judge_conflict(t: &Table, c: Conflict) -> Verdict
     let touch_2 = c.touch_2;
     let vertex_1 = c.vertex_1;
     let vertex_2 = c.vertex_2;
-    // 6 is worked out first and asked in its turn: a climb through nested blossoms is short where little else is held meanwhile.
+    // 6 is worked out first and asked in its turn: a step of a climb takes fewer instructions where little else is held meanwhile.
     let outside_1 = nodes::touches_elsewhere(t, node_1, touch_1);
     let outside_2 = nodes::touches_elsewhere(t, node_2, touch_2);
     let seen_1 = nodes::seen_state(t, node_1);
