@@ -22,7 +22,8 @@
  * A table that was not made, or that something else wrote into, is found out by each call and refused (number 1).
  *
  * Bytes are records, little-endian: a two-byte length (of what follows it), a two-byte kind, fields. A node has two bytes, a
- * vertex four.
+ * vertex four. A run also reads a request that recorders padded: with zeros behind it up to a multiple of four bytes, the length field
+ * counted in, and a length that counts them. Of the kinds below that is an expansion of length 6 with two zeros. Nothing is written so.
  *   requests   1 conflict (node_1, node_2, touch_1, touch_2, vertex_1, vertex_2; length 18)
  *              2 virtual conflict (node, touch, vertex, virtual vertex; 14)   3 expansion (node; 4)   4 reset (2)   5 list (2)
  *   commands  16 speed (node, then 0 Stay, 1 Grow, 2 Shrink; 6)   17 create (node; 4)   18 expand (node; 4)

@@ -258,7 +258,8 @@ impl Table {
         told(number, &out[..written as usize])
     }
 
-    /// Handles the requests of a tape, at most `allowance` of them. The answers are the first `written` bytes of `out`.
+    /// Handles the requests of a tape, at most `allowance` of them, padded with zeros to a multiple of four bytes or not. The answers are
+    /// the first `written` bytes of `out`.
     pub fn run<'tape>(&mut self, tape: &'tape [u8], out: &mut [u8], allowance: u32) -> Result<Run<'tape>, Refusal> {
         let (mut stop, mut handled, mut written, mut unread) = (0, 0, 0, 0);
         let number = unsafe {

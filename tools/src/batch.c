@@ -183,11 +183,10 @@ static void damaged(Shot *shot) {
 }
 
 static void runs(Shot *shot, const uint8_t *every, size_t length) {
-    static uint8_t tape[MOST];
+    static uint8_t tape[2 * MOST];
     Dice *d = &shot->dice;
     for (int i = 0; i < 3; i++) {
-        size_t size = length;
-        for (size_t k = 0; k < length; k++) tape[k] = every[k];
+        size_t size = pad_tape(d, tape, every, length);
         damage_tape(d, tape, &size);
         make(shot->begin);
         put_run(tape, size, chance(d, 1, 3) ? 4000 + roll(d, 3000) : roll(d, MOST + 1), chance(d, 1, 2) ? 100000 : roll(d, 300));

@@ -19,7 +19,7 @@ enum { ROOM = 8192, RUN_BYTES = 65536, BATCH = 2000, FILL = 0xa5 };
 /* ---- counts */
 
 static struct {
-    unsigned long accepted[ROWS], refused[14], at_side[14][3], stops[4], runs, tapes, tables, kept_sound, damaged, broken[9], nests, nests_broken[9], differences, shots, begins;
+    unsigned long accepted[ROWS], refused[14], at_side[14][3], stops[4], runs, tapes, tables, kept_sound, damaged, broken[9], nests, nests_broken[9], padded_tapes, padding, differences, shots, begins;
     unsigned long by_plan[PLANS], nested_expansions[3], commands;
     int deepest, largest_tree, longest_way, largest_ring;
     unsigned char begin_used[257];
@@ -222,15 +222,20 @@ static void try_nests(Shot aside) {
 
 /* ---- runs */
 
-/* A run against its sentences in 01, over the calls of single requests that are compared above. */
+static void pad(Bytes *tape, Dice *d, const Bytes *good) {
+    tape->length = 0;
+    make_room(tape, 2 * good->length);
+    tape->length = pad_tape(d, tape->bytes, good->bytes, good->length);
+}
+
+/* A run against its sentences in 01, over the calls of single requests that are compared above; some of the requests are padded. */
 static void try_run(Shot *shot, const Bytes *good) {
     static uint8_t out[RUN_BYTES], want[RUN_BYTES];
     static View t;
     uint16_t words[WORDS], want_words[WORDS];
     static Bytes tape;
     Dice *d = &shot->dice;
-    tape.length = 0;
-    append(&tape, good->bytes, good->length);
+    pad(&tape, d, good);
     damage_tape(d, tape.bytes, &tape.length);
     size_t room = chance(d, 1, 3) ? 4000 + roll(d, 3000) : roll(d, RUN_BYTES + 1);
     uint32_t allowance = chance(d, 1, 2) ? 100000 : roll(d, 300);
@@ -264,6 +269,28 @@ static void try_run(Shot *shot, const Bytes *good) {
     counts.runs++, counts.stops[why]++;
     if (given || stop != why || handled != count || written != pos || unread != tape.length - at || memcmp(out, want, sizeof out) || memcmp(words, want_words, sizeof words))
         difference("a run", shot_number, step_number, NULL);
+}
+
+/* A tape on which some requests are padded is answered as the one on which none is. */
+static void try_padding(Shot *shot, const Bytes *good) {
+    static uint8_t out[2][RUN_BYTES];
+    static uint16_t words[2][WORDS];
+    static Bytes padded;
+    uint16_t stop[2];
+    uint32_t handled[2];
+    boltclover_size written[2], unread[2];
+    int given[2];
+    size_t room = 4104 + roll(&shot->dice, RUN_BYTES - 4103);
+    pad(&padded, &shot->dice, good);
+    for (int i = 0; i < 2; i++) {
+        const Bytes *tape = i ? &padded : good;
+        boltclover_make(words[i], shot->begin);
+        memset(out[i], FILL, sizeof out[i]);
+        given[i] = boltclover_run(words[i], tape->bytes, tape->length, out[i], room, 100000, &stop[i], &handled[i], &written[i], &unread[i]);
+    }
+    counts.padded_tapes++, counts.padding += padded.length - good->length;
+    if (given[0] || given[1] || stop[0] != stop[1] || handled[0] != handled[1] || written[0] != written[1] || memcmp(out[0], out[1], sizeof out[0]) || memcmp(words[0], words[1], sizeof words[0]) || (stop[0] == 0 && unread[1]))
+        difference("a padded tape", shot_number, step_number, NULL);
 }
 
 /* The accepted requests of a shot as one tape: the original carries its own table from request to request. */
@@ -316,6 +343,7 @@ static void play(const char *original, uint64_t seed) {
     }
     try_tape(original, &shot, &shot_tape, &answers);
     for (int i = 0; i < 3; i++) try_run(&shot, &every);
+    try_padding(&shot, &every);
 }
 
 static void report(uint64_t seed) {
@@ -339,6 +367,7 @@ static void report(uint64_t seed) {
         if (counts.at_side[i][1] || counts.at_side[i][2]) printf(" %d: %lu and %lu;", i, counts.at_side[i][1], counts.at_side[i][2]);
     printf(" the others at no side\n");
     printf("runs: %lu, stopped by the tape's end %lu, the allowance %lu, room %lu, a bad record %lu\n", counts.runs, counts.stops[0], counts.stops[1], counts.stops[2], counts.stops[3]);
+    printf("tapes answered as without their padding: %lu, with %lu bytes of padding\n", counts.padded_tapes, counts.padding);
     printf("differences: %lu\n", counts.differences);
 }
 

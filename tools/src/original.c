@@ -20,12 +20,15 @@ static void fail(const char *what) {
     exit(2);
 }
 
+void make_room(Bytes *to, size_t length) {
+    if (to->room - to->length >= length) return;
+    to->room = 2 * to->room + length;
+    to->bytes = realloc(to->bytes, to->room);
+    if (!to->bytes) fail("no memory for what the original reads and writes");
+}
+
 void append(Bytes *to, const void *from, size_t length) {
-    if (to->room - to->length < length) {
-        to->room = 2 * to->room + length;
-        to->bytes = realloc(to->bytes, to->room);
-        if (!to->bytes) fail("no memory for what the original reads and writes");
-    }
+    make_room(to, length);
     if (length) memcpy(to->bytes + to->length, from, length);
     to->length += length;
 }

@@ -10,6 +10,7 @@ typedef struct {
     size_t length, room;
 } Bytes;
 
+void make_room(Bytes *to, size_t length); /* for so many bytes more */
 void append(Bytes *to, const void *from, size_t length);
 
 /* Runs PROGRAM WORD with this input and appends what it writes; gives its exit status, or 128 and the signal that ended it. A program

@@ -441,6 +441,32 @@ void damage_table(Shot *s, const View *t, uint16_t *words) {
     }
 }
 
+size_t pad_tape(Dice *dice, uint8_t *to, const uint8_t *tape, size_t length) {
+    uint8_t *end = to;
+    for (size_t at = 0; at < length;) {
+        Request r;
+        int size = read_request(&r, tape + at, length - at);
+        if (!size) break;
+        end += chance(dice, 1, 2) ? write_padded(end, &r) : write_request(end, &r);
+        at += size;
+    }
+    return end - to;
+}
+
+/* Something else than zero in the padding of the first padded record from a place on. */
+static void damage_padding(Dice *dice, uint8_t *tape, size_t length, size_t at) {
+    uint8_t exact[LONGEST_REQUEST];
+    for (Request r; at < length;) {
+        size_t size = read_request(&r, tape + at, length - at), least = size ? write_request(exact, &r) : 0;
+        if (!size) return;
+        if (size > least) {
+            tape[at + least + roll(dice, size - least)] = 1 + roll(dice, 255);
+            return;
+        }
+        at += size;
+    }
+}
+
 void damage_tape(Dice *dice, uint8_t *tape, size_t *length) {
     if (*length < 8 || chance(dice, 1, 3)) return;
     size_t at = 0, records = roll(dice, 40);
@@ -450,11 +476,12 @@ void damage_tape(Dice *dice, uint8_t *tape, size_t *length) {
         at += size;
     }
     static const uint16_t kinds[] = {0, 6, 15, 16, 17, 18, 19, 20, 21, 22, 255, 256, 65535};
-    switch (roll(dice, 5)) {
+    switch (roll(dice, 6)) {
     case 0: *length -= 1 + roll(dice, 7); break;                                    /* cut short */
     case 1: tape[at + 2] = kinds[roll(dice, 13)]; break;                            /* other kind */
     case 2: tape[at + 3] = roll(dice, 256); break;                                  /* other kind, high byte */
     case 3: tape[at] = roll(dice, 24); break;                                       /* other length */
+    case 4: damage_padding(dice, tape, *length, at); break;
     default: tape[at + roll(dice, 8 < *length - at ? 8 : 1)] ^= 1u << roll(dice, 8); /* one bit anywhere */
     }
 }

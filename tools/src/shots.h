@@ -34,6 +34,8 @@ Request wild_request(Shot *shot, const View *t);
 /* Words with some damage, which may leave the table sound. */
 void damage_table(Shot *shot, const View *t, uint16_t *words);
 /* A tape with some damage, or none: cut short, or a record of another kind or length, or another bit. */
+/* A tape of good records with some of them padded, in less than twice the bytes; gives how many. */
+size_t pad_tape(Dice *dice, uint8_t *to, const uint8_t *tape, size_t length);
 void damage_tape(Dice *dice, uint8_t *tape, size_t *length);
 
 int nesting_of(const View *t, uint32_t n); /* 0 for a defect */

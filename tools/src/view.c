@@ -39,6 +39,13 @@ size_t write_request(uint8_t *to, const Request *r) {
     return at - to;
 }
 
+size_t write_padded(uint8_t *to, const Request *r) {
+    size_t size = write_request(to, r);
+    for (; size % 4; size++) to[size] = 0;
+    put(to, size - 2, 2);
+    return size;
+}
+
 static uint32_t take(const uint8_t *from, int bytes) {
     uint32_t value = 0;
     for (int i = 0; i < bytes; i++) value |= (uint32_t)from[i] << (8 * i);
@@ -46,10 +53,13 @@ static uint32_t take(const uint8_t *from, int bytes) {
 }
 
 int read_request(Request *r, const uint8_t *tape, size_t length) {
-    static const uint32_t lengths[] = {0, 18, 14, 4, 2, 2};
+    static const uint32_t sizes[] = {0, 20, 16, 6, 4, 4};
     if (length < 4) return 0;
-    uint32_t stated = take(tape, 2), kind = take(tape + 2, 2);
-    if (length < 2 + stated || kind < CONFLICT || kind > LIST || stated != lengths[kind]) return 0;
+    uint32_t size = 2 + take(tape, 2), kind = take(tape + 2, 2);
+    if (length < size || kind < CONFLICT || kind > LIST || size < sizes[kind]) return 0;
+    if (size > sizes[kind] && (size % 4 || size - sizes[kind] > 3)) return 0;
+    for (uint32_t i = sizes[kind]; i < size; i++)
+        if (tape[i]) return 0;
     *r = (Request){.kind = kind};
     const uint8_t *at = tape + 4;
     if (kind == CONFLICT) {
@@ -59,5 +69,5 @@ int read_request(Request *r, const uint8_t *tape, size_t length) {
     } else if (kind == EXPANSION) {
         r->node_1 = take(at, 2);
     }
-    return 2 + stated;
+    return size;
 }

@@ -35,6 +35,7 @@ typedef struct {
 void read_view(View *view, const uint16_t *words);
 size_t write_dump(uint8_t *to, const View *view); /* the table as the original's wrapper reads and writes it */
 size_t write_request(uint8_t *to, const Request *request);
+size_t write_padded(uint8_t *to, const Request *request); /* as recorders do: zeros up to a multiple of four bytes */
 int read_request(Request *request, const uint8_t *tape, size_t length); /* the bytes of the record, or 0 for a bad one */
 
 enum { DUMP = 6 + SLOTS * 22, LONGEST_REQUEST = 20 };

@@ -1,7 +1,10 @@
 pub mod Layouts
 pub mod Written
 pub mod Codec
+pub mod Padding
 pub mod Read
+pub mod RoundTrips
 pub mod ReadInNumbers
 pub mod RecordExamples
+pub mod PaddingExamples
 pub mod Theorems

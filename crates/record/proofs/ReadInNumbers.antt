@@ -19,6 +19,7 @@ use Rattle.record.specs.declared.request.Reading.the-variants as R
 use Rattle.record.specs.Kinds.{numberOfKind, widths, isRequest}
 use Rattle.record.specs.Fields.{decode}
 use Rattle.record.specs.Records.{requestKind, requestFields, conflictFrom, virtualFrom, expansionFrom}
+use Rattle.record.specs.Padding.{hasItsLength}
 use Rattle.record.specs.Reading.{lengthAt, layoutAt, bad, asked, read, readingNumber, readingValues, readingSize, isBad, Read}
 
 -- ---- the numbers stand for one answer
@@ -84,7 +85,7 @@ told false false true K.Other bs size = (refl, refl, refl)
 read-told : (bs : List ℕ) → Read bs (read bs)
 unfolding read
 read-told bs =
-    told (ltb (length bs) 4) (ltb (length bs) (2 + lengthAt bs)) (eqb (lengthAt bs) (layoutAt bs .length)) (layoutAt bs .kind) (drop 4 bs) (2 + lengthAt bs)
+    told (ltb (length bs) 4) (ltb (length bs) (2 + lengthAt bs)) (hasItsLength (layoutAt bs .length) (lengthAt bs) bs) (layoutAt bs .kind) (drop 4 bs) (2 + lengthAt bs)
 
 once : (isBad : Bool) (k : Kind) (vs : List ℕ) (size : ℕ) (r r′ : Reading) → Told isBad k vs size r → Told isBad k vs size r′ → r ≡ r′
 once true k vs size r r′ h h′ = same-reading r r′ (h .0 ∙ sym (h′ .0)) (h .1 ∙ sym (h′ .1)) (h .2 ∙ sym (h′ .2))

@@ -10,11 +10,13 @@ use Rattle.record.specs.declared.request.Reading.{Reading}
 use Rattle.record.specs.declared.request.Reading.the-variants as R
 use Rattle.record.specs.Kinds.{sum}
 use Rattle.record.specs.Fields.{encode, decode, AllFit, AllBytes}
-use Rattle.record.specs.Records.{requestBytes, RequestFits}
+use Rattle.record.specs.Records.{requestKind, requestBytes, RequestFits}
+use Rattle.record.specs.Padding.{paddedRequest, StandsAs, unpadded}
 use Rattle.record.specs.Reading.{bad, read, Bad, Read}
 use Rattle.record.specs.Writing.{outOf, placed, writeAll, bytesOf}
 use Rattle.record.proofs.Codec.{decode-of-encode, encode-of-decode}
-use Rattle.record.proofs.Read.{read-size, read-back, read-so, read-fit, bad-exactly, placed-read}
+use Rattle.record.proofs.Read.{read-size, read-four, bad-exactly}
+use Rattle.record.proofs.RoundTrips.{read-back, read-back-padded, read-so, read-unpadded, read-fit, placed-read}
 use Rattle.record.proofs.ReadInNumbers.{read-in-numbers, read-of-numbers}
 use Rattle.record.proofs.Written.{placed-parts, writeAll-room}
 
@@ -30,19 +32,30 @@ encode-decode = encode-of-decode
 pub request-read : (r : Request) (rest : List ℕ) → RequestFits r → read (requestBytes r ++ rest) ≡ R.Request r (length (requestBytes r))
 request-read = read-back
 
--- what is read stands first on the tape, byte for byte
-pub read-request : (bs : List ℕ) (r : Request) (n : ℕ) → AllBytes bs → read bs ≡ R.Request r n → requestBytes r ≡ take n bs
+-- so is one that is padded, and the padding is taken with it
+pub padded-request-read : (r : Request) (rest : List ℕ) → RequestFits r → read (paddedRequest r ++ rest) ≡ R.Request r (length (paddedRequest r))
+padded-request-read = read-back-padded
+
+-- what is read stands first on the tape, byte for byte, exact or padded
+pub read-request : (bs : List ℕ) (r : Request) (n : ℕ) → AllBytes bs → read bs ≡ R.Request r n → StandsAs r (take n bs)
 read-request = read-so
+
+-- ticket 2: "reading and writing again now gives the unpadded form of the record"
+pub read-and-written : (bs : List ℕ) (r : Request) (n : ℕ) → AllBytes bs → read bs ≡ R.Request r n → requestBytes r ≡ unpadded (requestKind r) bs
+read-and-written = read-unpadded
 
 -- and its fields fit
 pub read-request-fits : (bs : List ℕ) (r : Request) (n : ℕ) → AllBytes bs → read bs ≡ R.Request r n → RequestFits r
 read-request-fits = read-fit
 
--- and is no longer than the tape
+-- and its record has at least four bytes, and no more than the tape
+pub read-request-four : (bs : List ℕ) (r : Request) (n : ℕ) → read bs ≡ R.Request r n → 4 ≤ n
+read-request-four = read-four
+
 pub read-request-size : (bs : List ℕ) (r : Request) (n : ℕ) → read bs ≡ R.Request r n → n ≤ length bs
 read-request-size = read-size
 
--- "Bad: cut short, other kind, other length.", and nothing else is
+-- "Bad: cut short, other kind, other length.", and by ticket 2 "12 for nonzero padding or any other length"; nothing else is
 pub read-bad-exactly : (bs : List ℕ) → read bs ≡ bad ↔ Bad bs
 read-bad-exactly = bad-exactly
 

@@ -1,11 +1,11 @@
--- What reading a tape finds. "Reading takes requests alone. Bad: cut short, other kind, other length."
+-- What reading a tape finds. "Reading takes requests alone. Bad: cut short, other kind, other length.", as ticket 2 of 02 changes it.
 use mathlib.Core.Path.{_≡_}
 use Prim.Native.Nat.{ℕ, _+_, _<_}
 use mathlib.Core.Bool.{Bool, false, not, _||_}
 use mathlib.Core.List.{List, [], _∷_}
 use mathlib.Core.Logic.{_⊎_}
 use lib.ListN.{length, take, drop}
-use lib.Dec.{eqb, ltb}
+use lib.Dec.{ltb}
 use Rattle.lists.specs.Choice.{pick}
 use Rattle.refusal.specs.declared.Refusal.the-variants.{BadRecord}
 use Rattle.refusal.specs.Refusal.{numberOf}
@@ -18,6 +18,7 @@ use Rattle.record.specs.declared.request.Reading.the-variants as R
 use Rattle.record.specs.Kinds.{numberOfKind, widths, isRequest, layoutOf}
 use Rattle.record.specs.Fields.{number, decode}
 use Rattle.record.specs.Records.{requestKind, requestFields, conflictFrom, virtualFrom, expansionFrom}
+use Rattle.record.specs.Padding.{paddedLength, padding, areZero, hasItsLength}
 
 -- the length that a record states, and what its kind says
 abbrev pub lengthAt : List ℕ → ℕ
@@ -44,15 +45,15 @@ asked K.Pair vs n = bad
 asked K.VirtualPair vs n = bad
 asked K.Other vs n = bad
 
--- what the record's first bytes leave to say: its length must be its kind's
+-- what the record's first bytes leave to say: its length must be its kind's; the padding is part of what it fills
 abbrev pub readAs : Layout → List ℕ → Reading
-readAs l bs = pick (eqb (lengthAt bs) (l .length)) (asked (l .kind) (decode (widths (l .kind)) (drop 4 bs)) (2 + lengthAt bs)) bad
+readAs l bs = pick (hasItsLength (l .length) (lengthAt bs) bs) (asked (l .kind) (decode (widths (l .kind)) (drop 4 bs)) (2 + lengthAt bs)) bad
 
 -- the record that stands first in bs; a record has at least its length and its kind, four bytes
 unfoldable pub read : List ℕ → Reading
 read bs = pick (ltb (length bs) 4) bad (pick (ltb (length bs) (2 + lengthAt bs)) bad (readAs (layoutAt bs) bs))
 
--- ---- the three ways to be bad, as 01 names them
+-- ---- the ways to be bad, as 01 and ticket 2 name them
 
 abbrev pub CutShort : List ℕ → Type 0
 CutShort bs = (length bs < 4) ⊎ (length bs < 2 + lengthAt bs)
@@ -60,13 +61,21 @@ CutShort bs = (length bs < 4) ⊎ (length bs < 2 + lengthAt bs)
 abbrev pub OtherKind : List ℕ → Type 0
 OtherKind bs = isRequest (layoutAt bs .kind) ≡ false
 
+-- "12 for nonzero padding or any other length": neither the exact length nor the padded one
 abbrev pub OtherLength : List ℕ → Type 0
-OtherLength bs = lengthAt bs ≡ layoutAt bs .length → ⊥
+OtherLength bs = (lengthAt bs ≡ layoutAt bs .length → ⊥) × (lengthAt bs ≡ paddedLength (layoutAt bs .length) → ⊥)
+
+-- the padded length, and a padding of something else than zeros
+abbrev pub NonzeroPadding : List ℕ → Type 0
+NonzeroPadding bs =
+    let exact = layoutAt bs .length in
+    (lengthAt bs ≡ paddedLength exact) × (areZero (padding exact (lengthAt bs) bs) ≡ false)
 
 pub data Bad (bs : List ℕ) : Type 0 where
   cut-short : CutShort bs → Bad bs
   other-kind : OtherKind bs → Bad bs
   other-length : OtherLength bs → Bad bs
+  nonzero-padding : NonzeroPadding bs → Bad bs
 
 -- ---- what reading answers, in 01's numbers: the promise of the public call
 
@@ -80,17 +89,17 @@ abbrev pub readingValues : Reading → List ℕ
 readingValues (R.Request q size) = numberOfKind (requestKind q) ∷ requestFields q
 readingValues (R.Refused n) = []
 
--- the bytes that its record fills
+-- the bytes that its record fills, with its padding
 abbrev pub readingSize : Reading → ℕ
 readingSize (R.Request q size) = size
 readingSize (R.Refused n) = 0
 
--- cut short, of an other length, of an other kind
+-- cut short, without the length of its kind, of an other kind
 abbrev pub isBad : List ℕ → Bool
 isBad bs =
     ltb (length bs) 4
     || ltb (length bs) (2 + lengthAt bs)
-    || not (eqb (lengthAt bs) (layoutAt bs .length))
+    || not (hasItsLength (layoutAt bs .length) (lengthAt bs) bs)
     || not (isRequest (layoutAt bs .kind))
 
 -- refused with 12 where the record is bad; else 0, and the request that stands first

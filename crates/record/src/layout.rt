@@ -1,9 +1,12 @@
-// The layout of the records of a kind: which kind a number stands for, and the length that its records have (01, "Records").
+// The layout of the records of a kind: which kind a number stands for, the length that its records have (01, "Records"), and their
+// padding (ticket 2 of 02).
 use crate::Kind;
 use crate::Layout;
 use crate::kind;
 ghost use mathlib.Core.Path.{_≡_};
+ghost use Prim.Native.Nat.{_-_};
 ghost use Rattle.record.specs.Kinds.{layoutOf};
+ghost use Rattle.record.specs.Padding.{paddedLength};
 
 pub fn layout_of(number: u16) -> Layout
     ensures { λ r. ⌜ r ≡ layoutOf number ⌝ }
@@ -58,4 +61,12 @@ pub fn layout_of(number: u16) -> Layout
             length: 0,
         },
     }
+}
+
+// The zeros behind the fields of a padded record whose exact length is this: with the length field's own two bytes it fills a multiple
+// of four.
+pub fn padding_of(exact: u16) -> u16
+    ensures { λ r. ⌜ r ≡ paddedLength exact - exact ⌝ }
+{
+    (6 - exact % 4) % 4
 }

@@ -1,2 +1,3 @@
 pub mod FieldsLaws
+pub mod PaddingLaws
 pub mod ReadingLaws

@@ -4,7 +4,8 @@ use mathlib.Core.List.{List}
 use Prim.Native.Nat.{ℕ, _+_, _≤_, _<_}
 use native.Mathlib.Omega.{arith}
 use lib.ListN.{length, take, drop}
-use mathlib.Core.Bool.{true}
+use mathlib.Core.Bool.{Bool, true, false, not}
+use borrow.Author.Tests.{not-true, not-false}
 use mathlib.Core.Logic.{_⊎_, inl, inr}
 use denote.Enum.Declared.{tagOf}
 use Rattle.record.specs.declared.kind.Kind.{Kind}
@@ -13,15 +14,11 @@ use Rattle.record.specs.declared.kind.Kind.the-variants as K
 use Rattle.record.specs.declared.kind.Layout.{Layout}
 use Rattle.record.specs.Kinds.{widths, lengthOf, isRequest, layoutOf}
 use Rattle.record.specs.Fields.{number, decode}
+use Rattle.record.specs.Padding.{hasItsLength}
 use Rattle.record.specs.Reading.{bad, asked, read, lengthAt, layoutAt}
 use Rattle.record.proofs.Layouts.{layout-length}
+use Rattle.record.proofs.Padding.{no-shorter}
 use Rattle.record.proofs.Read as steps
-
--- the layout of a request's kind has the length of that kind
-pub length-known : (m : ℕ) (y : Layout) (k : Kind) → y ≡ layoutOf m → y .kind ≡ k → isRequest k ≡ true → y .length ≡ lengthOf k
-length-known m y k s t r =
-    let i : isRequest (layoutOf m .kind) ≡ true = cc in
-    cc (layout-length m i)
 
 -- ---- by which arm the reader leaves
 
@@ -58,22 +55,37 @@ module _ (l : List ℕ) (more : 4 ≤ length l) (n : ℕ) (e : n ≡ lengthAt l)
   pub read-short : length l < n + 2 → bad ≡ read l
   read-short h = steps.read-short l more (omega arith)
 
-  module _ (whole : n + 2 ≤ length l) (m : ℕ) (y : Layout) (q : m ≡ number (take 2 (drop 2 l))) (s : y ≡ layoutOf m) where
+  module _ (whole : n + 2 ≤ length l) (m : ℕ) (y : Layout) (q : m ≡ number (take 2 (drop 2 l))) (s : y ≡ layoutOf m) (r : Bool) (o : r ≡ hasItsLength (y .length) n l) where
     layout : y ≡ layoutAt l
     layout = s ∙ ap layoutOf q
 
     w : 2 + lengthAt l ≤ length l
     w = omega arith
 
-    pub read-length : (n ≡ y .length → ⊥) → bad ≡ read l
-    read-length h = steps.read-length l more w (λ f. h (e ∙ f ∙ ap (λ (z : Layout). z .length) (sym layout)))
+    -- what the reader is told of the record's length
+    fitting : {b : Bool} → r ≡ b → steps.fitting l ≡ b
+    fitting h = let f = sym o ∙ h in rw (layout, e) at f
 
-    pub read-whole : (k : Kind) → n ≡ y .length → y .kind ≡ k → asked k (decode (widths k) (drop 4 l)) (n + 2) ≡ read l
-    read-whole k o t =
-        let g : n + 2 ≡ 2 + lengthAt l = omega arith in
-        rw (g, ← t, layout) (steps.read-whole l more w (sym e ∙ o ∙ ap (λ (z : Layout). z .length) layout))
+    pub read-length : not r ≡ true → bad ≡ read l
+    read-length h = steps.read-length l more w (fitting (not-true r h))
 
-    pub read-answer : n ≡ y .length → AnswerPlace (tagOf the-type (y .kind)) → bad ≡ read l
-    read-answer o p =
-        no-request (y .kind) (decode (widths (y .kind)) (drop 4 l)) (n + 2) (past-requests (tagOf the-type (y .kind)) p)
-        ∙ read-whole (y .kind) o refl
+    module _ (h : not r ≡ false) where
+      fits : hasItsLength (y .length) n l ≡ true
+      fits = sym o ∙ not-false r h
+
+      -- the fields of a request stand on the tape
+      pub fields-there : (k : Kind) → y .kind ≡ k → isRequest k ≡ true → 2 + lengthOf k ≤ length l
+      fields-there k t i =
+          let j : isRequest (layoutOf m .kind) ≡ true = cc in
+          let d : y .length ≡ lengthOf k = cc (layout-length m j) in
+          omega (arith, no-shorter (y .length) n l fits)
+
+      pub read-whole : (k : Kind) → y .kind ≡ k → asked k (decode (widths k) (drop 4 l)) (n + 2) ≡ read l
+      read-whole k t =
+          let g : n + 2 ≡ 2 + lengthAt l = omega arith in
+          rw (g, ← t, layout) (steps.read-whole l more w (fitting (not-false r h)))
+
+      pub read-answer : AnswerPlace (tagOf the-type (y .kind)) → bad ≡ read l
+      read-answer p =
+          no-request (y .kind) (decode (widths (y .kind)) (drop 4 l)) (n + 2) (past-requests (tagOf the-type (y .kind)) p)
+          ∙ read-whole (y .kind) refl

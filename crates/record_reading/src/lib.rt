@@ -1,5 +1,6 @@
 // Reading a record from a tape.
 pub mod fields;
+pub mod padding;
 
 use record::Kind;
 use record::Reading;
@@ -8,7 +9,8 @@ use refusal::Refusal;
 ghost use mathlib.Core.Path.{_≡_};
 ghost use Rattle.record.specs.Reading.{read};
 
-// The request that stands first on the tape. 01: "Bad: cut short, other kind, other length."
+// The request that stands first on the tape, with the bytes that it fills, its padding with them. 01: "Bad: cut short, other kind,
+// other length."; ticket 2 of 02: "12 for nonzero padding or any other length".
 pub fn read_record(tape: &[u8]) -> Reading
     ensures { λ r. ⌜ r ≡ read (now (tape .entry)) ⌝ }
 {
@@ -16,14 +18,16 @@ pub fn read_record(tape: &[u8]) -> Reading
         return Reading::Refused(Refusal::BadRecord);
     }
     let length = crate::fields::narrow_at(tape, 0);
-    let size = (length as usize) + 2;
-    if tape.len() < size {
+    if tape.len() < (length as usize) + 2 {
         return Reading::Refused(Refusal::BadRecord);
     }
     let layout = record::layout::layout_of(crate::fields::narrow_at(tape, 2));
-    if length != layout.length {
+    let exact = layout.length;
+    if !crate::padding::has_its_length(tape, exact, length) {
         return Reading::Refused(Refusal::BadRecord);
     }
+    // The padding is taken with the record.
+    let size = (length as usize) + 2;
     let kind = layout.kind;
     match kind {
         Kind::Conflict => Reading::Request(

@@ -82,6 +82,16 @@ unfoldable pub requestsOf : ℕ → List ℕ → List Request
 requestsOf zero tape = []
 requestsOf (suc n) tape = requestAnd (requestsOf n) (reading.read tape) tape
 
+-- what follows behind the record that a reading found, its padding too; a bad record stays
+abbrev pub behindAnd : (List ℕ → List ℕ) → Reading → List ℕ → List ℕ
+behindAnd more (G.Request q size) tape = more (drop size tape)
+behindAnd more (G.Refused n) tape = tape
+
+-- what stands behind a tape's first so many records
+unfoldable pub behindOf : ℕ → List ℕ → List ℕ
+behindOf zero tape = tape
+behindOf (suc n) tape = behindAnd (behindOf n) (reading.read tape) tape
+
 -- "On an unsound table: refusal 1 before any stop, nothing handled."
 pub data Ran : Type 0 where
   unsound : Ran

@@ -9,6 +9,7 @@ mod write;
 
 fn main() {
     read::lengths();
+    read::padding();
     read::largest();
     read::kinds();
     write::all();

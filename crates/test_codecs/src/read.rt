@@ -1,5 +1,5 @@
-// Reading: each request's record at every length of the tape, the largest numbers, and every kind with every length. A request that
-// was read is written again, so that its line shows its bytes.
+// Reading: each request's record at every length of the tape, padding, the largest numbers, and every kind with every length. A
+// request that was read is written again, so that its line shows its bytes, without padding.
 use crate::show;
 use record::Reading;
 use refusal::Answer;
@@ -37,8 +37,19 @@ pub fn lengths() {
     cut(b"\x12\x00\x01\x00\x00\x00\x01\x00\x02\x00\x03\x00\x0a\x00\x00\x00\x0b\x00\x00\x00\x63");
     cut(b"\x0e\x00\x02\x00\x04\x01\x05\x02\x01\x02\x03\x04\x05\x06\x07\x08\x63");
     cut(b"\x04\x00\x03\x00\x80\x00\x63");
+    cut(b"\x06\x00\x03\x00\x80\x00\x00\x00\x63");
     cut(b"\x02\x00\x04\x00\x63");
     cut(b"\x02\x00\x05\x00\x63");
+}
+
+// A padding of which one byte is not zero, each in turn; the length of an expansion before two zeros; a conflict with two zeros more.
+pub fn padding() {
+    line(b"\x06\x00\x03\x00\x80\x00\x01\x00");
+    line(b"\x06\x00\x03\x00\x80\x00\x00\x80");
+    line(b"\x04\x00\x03\x00\x80\x00\x00\x00");
+    line(
+        b"\x14\x00\x01\x00\x00\x00\x01\x00\x02\x00\x03\x00\x0a\x00\x00\x00\x0b\x00\x00\x00\x00\x00",
+    );
 }
 
 pub fn largest() {
@@ -46,9 +57,10 @@ pub fn largest() {
     line(b"\x04\x00\xff\xff\xff\xff");
 }
 
-// The bytes taken from a record of this kind that states this length: none where it is refused.
-fn taken(kind: u8, length: u8) -> usize {
-    let mut tape = [1u8; 32];
+// The bytes taken from a record of this kind that states this length, where every byte behind the kind is the same: none where it is
+// refused.
+fn taken(kind: u8, length: u8, byte: u8) -> usize {
+    let mut tape = [byte; 32];
     tape[0] = length;
     tape[1] = 0;
     tape[2] = kind;
@@ -59,21 +71,24 @@ fn taken(kind: u8, length: u8) -> usize {
     }
 }
 
-fn every_length(kind: u8) {
+fn every_length(kind: u8, byte: u8) {
     show::told(b"kind ", kind as usize);
+    show::told(b" before bytes of ", byte as usize);
     io::write_all(1, b" takes");
     let mut length: u8 = 0;
     while length < 28 {
-        show::told(b" ", taken(kind, length));
+        show::told(b" ", taken(kind, length, byte));
         length += 1;
     }
     io::write_all(1, b"\n");
 }
 
+// Zeros are the padding of a padded record.
 pub fn kinds() {
     let mut kind: u8 = 0;
     while kind < 24 {
-        every_length(kind);
+        every_length(kind, 1);
+        every_length(kind, 0);
         kind += 1;
     }
 }

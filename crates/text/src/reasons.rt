@@ -74,26 +74,24 @@ const ANSWER: usize = 3;
 
 const OTHER_LENGTH: usize = 4;
 
-const FAULTS: [u8; 136] = *b"|cut short
+const NEITHER_LENGTH: usize = 5;
+
+const NONZERO_PADDING: usize = 6;
+
+const FAULTS: [u8; 262] = *b"|cut short
 |no record has kind #n0
 |kind #n0 is an answer's, and a tape holds requests
 |length #n1 for kind #n0, whose records have #n2
+|length #n1 for kind #n0, whose records have #n2, or #n3 with padding
+|length #n1 for kind #n0, with padding that is not zero
 ";
 
-fn write_numbers(
-    out: &mut [u8],
-    pos: usize,
-    form: &[u8],
-    a: u16,
-    b: u16,
-    c: u16,
-    side: u16,
-) -> usize {
+fn write_numbers(out: &mut [u8], pos: usize, form: &[u8], a: u16, b: u16, c: u16, d: u32) -> usize {
     let mut numbers = [0u8; 8];
     put(&mut numbers, 0, a as u32, 2);
     put(&mut numbers, 2, b as u32, 2);
     put(&mut numbers, 4, c as u32, 2);
-    put(&mut numbers, 6, side as u32, 2);
+    put(&mut numbers, 6, d, 2);
     write_form(out, pos, form, 4, &numbers)
 }
 
@@ -107,7 +105,7 @@ pub fn write_reason(
     c: u16,
     side: u16,
 ) -> usize {
-    write_numbers(out, pos, nth(&REASONS, b'|', reason), a, b, c, side)
+    write_numbers(out, pos, nth(&REASONS, b'|', reason), a, b, c, side as u32)
 }
 
 fn kind_fault(kind: Kind) -> usize {
@@ -127,8 +125,16 @@ fn kind_fault(kind: Kind) -> usize {
     }
 }
 
+// The fault of a length that is neither the exact one nor the padded one, which are the same for most kinds.
+fn length_fault(exact: u16, padded: u32) -> usize {
+    if padded == exact as u32 {
+        return OTHER_LENGTH;
+    }
+    NEITHER_LENGTH
+}
+
 // Which fault a bad record has. A tape that is no tape at all is told by its kind sooner than by its length.
-fn fault_of(tape: &[u8], kind: Kind, length: u16) -> usize {
+fn fault_of(tape: &[u8], kind: Kind, exact: u16, padded: u32) -> usize {
     if tape.len() < 4 {
         return CUT_SHORT;
     }
@@ -136,27 +142,34 @@ fn fault_of(tape: &[u8], kind: Kind, length: u16) -> usize {
     if fault != CUT_SHORT {
         return fault;
     }
-    if narrow_at(tape, 0) != length {
-        return OTHER_LENGTH;
+    let length = narrow_at(tape, 0);
+    if length != exact {
+        if length as u32 != padded {
+            return length_fault(exact, padded);
+        }
     }
-    CUT_SHORT
+    if tape.len() < length as usize + 2 {
+        return CUT_SHORT;
+    }
+    NONZERO_PADDING
 }
 
 // Why the record that stands first on a tape is bad.
 fn write_record_fault(out: &mut [u8], pos: usize, tape: &[u8]) -> usize {
     let number = narrow_at(tape, 2);
     let layout = record::layout::layout_of(number);
-    let length = layout.length;
+    let exact = layout.length;
     let kind = layout.kind;
-    let fault = fault_of(tape, kind, length);
+    let padded = exact as u32 + record::layout::padding_of(exact) as u32;
+    let fault = fault_of(tape, kind, exact, padded);
     write_numbers(
         out,
         pos,
         nth(&FAULTS, b'|', fault),
         number,
         narrow_at(tape, 0),
-        length,
-        0,
+        exact,
+        padded,
     )
 }
 

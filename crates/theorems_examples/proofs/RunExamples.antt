@@ -21,6 +21,10 @@ use Rattle.theorems_examples.specs.Told.{report, reported, bytesOf}
 tape : List ℕ
 tape = requestBytes (meet 0 1 0 1 10 11) ++ requestBytes Q.List
 
+-- expand 128, with two zeros behind it
+padded : List ℕ
+padded = 6 ∷ 0 ∷ 3 ∷ 0 ∷ 128 ∷ 0 ∷ 0 ∷ 0 ∷ []
+
 world : ℕ → World
 world room = record { table = fresh 128; out = outOf (replicate room 0) 0 }
 
@@ -46,6 +50,16 @@ stop-order :
     × (reported (runTape 1 (world 4104) (7 ∷ [])) ≡ report 3 0 0 1)
 unfolding all-rules world reported report requestBytes answerBytes layoutOf reading.read placed written writeAll
 stop-order = (refl, refl, refl, refl)
+
+-- a padded expansion is handled with its padding, and the rest begins behind it; one whose padding is not zero is left; behind an
+-- expansion of length 4 two zeros are left
+padded-in-a-run :
+    (reported (runTape 1 (world 4200) (padded ++ tape)) ≡ report 1 1 8 24)
+    × (reported (runTape 10 (world 4200) (padded ++ tape)) ≡ report 0 3 56 0)
+    × (reported (runTape 10 (world 4200) (padded ++ 6 ∷ 0 ∷ 3 ∷ 0 ∷ 128 ∷ 0 ∷ 0 ∷ 1 ∷ [])) ≡ report 3 1 8 8)
+    × (reported (runTape 10 (world 4200) (4 ∷ 0 ∷ 3 ∷ 0 ∷ 128 ∷ 0 ∷ 0 ∷ 0 ∷ [])) ≡ report 3 1 8 2)
+unfolding all-rules tape padded world reported report requestBytes answerBytes layoutOf reading.read placed written writeAll
+padded-in-a-run = (refl, refl, refl, refl)
 
 -- a refused request yields only its end record, and counts as handled
 refused-in-a-run : bytesOf (runTape 10 (world 4200) (requestBytes (meet 0 0 0 0 10 11))) ≡ 0x06 ∷ 0x00 ∷ 0x13 ∷ 0x00 ∷ 0x05 ∷ 0x00 ∷ 0x00 ∷ 0x00 ∷ []

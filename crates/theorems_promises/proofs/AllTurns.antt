@@ -6,8 +6,7 @@ use mathlib.Core.Logic.{inl}
 use Prim.Native.Nat.{ℕ, zero, suc, _+_, _-_, _≤_, _<_}
 use native.Mathlib.Omega.{arith}
 use lib.Dec.{T}
-use lib.ListN.{length, drop}
-use lib.Seq.{drop-append-seam}
+use lib.ListN.{length}
 use Rattle.table.specs.Words.{tableOf}
 use Rattle.table.specs.Making.{fresh, beginFits, Made}
 use Rattle.refusal.specs.declared.Answer.the-variants as A
@@ -16,24 +15,22 @@ use Rattle.refusal.specs.declared.Refusal.the-variants.{BadRecord}
 use Rattle.refusal.specs.Refusal.{numberOf}
 use Rattle.record.specs.declared.request.Request.{Request}
 use Rattle.record.specs.declared.answer.Record.the-variants as R
-use Rattle.record.specs.Fields.{AllBytes}
 use Rattle.record.specs.Records.{answerBytes}
 use Rattle.record.specs.Reading as reading
 use Rattle.record.specs.Writing.{bytesOf}
-use Rattle.record.proofs.Codec.{bytes-drop}
 use Rattle.record.proofs.Theorems.{read-bad-exactly}
 use Rattle.rules.specs.Sound.{sound}
-use Rattle.rules.specs.Run.{Between, requestsOf}
-use Rattle.theorems_promises.specs.InARow.{tapeOf, inARow}
+use Rattle.rules.specs.Run.{Between, requestsOf, behindOf}
+use Rattle.theorems_promises.specs.Tapes.{allRequests, behindRequests}
+use Rattle.theorems_promises.specs.InARow.{inARow}
 use Rattle.theorems_promises.proofs.SoundAfter.{made-is-sound}
 use Rattle.theorems_promises.proofs.Determining.{MadeBy}
-use Rattle.theorems_promises.proofs.TapeEnd.{before-rest}
 use Rattle.tape.specs.Program.{lastRecords}
 use Rattle.tape.specs.declared.turn.TurnEnd.{TurnEnd}
 use Rattle.tape.specs.declared.turn.TurnEnd.the-variants.{TapeRead, GoesOn, BadTape, NotSound}
 use Rattle.theorems_promises.specs.Turns.{OneTurn, restAfter, Turns, last, next, allWritten, allHandled, howMany, lastEnd, lastWords, lastRest, RestBy}
-use Rattle.theorems_promises.specs.Written.{allRequests, endOfTape, programWrites}
-use Rattle.theorems_promises.proofs.RowsJoined.{requests-joined, between-joined, joined-table, joined-bytes, bytes-of-joined, four-each}
+use Rattle.theorems_promises.specs.Written.{endOfTape, programWrites}
+use Rattle.theorems_promises.proofs.RowsJoined.{requests-joined, behind-joined, between-joined, joined-table, joined-bytes, bytes-of-joined, four-each}
 use Rattle.theorems_promises.proofs.OneTurn.{RestOr, Left, turn-left}
 
 -- so many turns on these words and this tape left these words, having handled so many records; how they ended, the rest, what they wrote
@@ -93,8 +90,8 @@ turns-left {words} {tape} (next t e ts) s =
 
 -- ---- turns come to an end
 
-shorter : (words tape words′ : List ℕ) (handled : ℕ) (rest wrote : List ℕ) → AllBytes tape → Left words tape words′ handled GoesOn rest wrote → length rest < length tape
-shorter words tape words′ handled rest wrote a h = omega (arith, four-each handled tape rest a (h .between), h .over)
+shorter : (words tape words′ : List ℕ) (handled : ℕ) (rest wrote : List ℕ) → Left words tape words′ handled GoesOn rest wrote → length rest < length tape
+shorter words tape words′ handled rest wrote h = omega (arith, four-each handled tape rest (h .between), h .over)
 
 -- a turn, and if it goes on those after it
 and-then :
@@ -111,15 +108,14 @@ pub ending-by :
     (take-turn : (words tape : List ℕ) → OneTurn words tape) (k : ℕ) (words tape : List ℕ)
     → length tape < k
     → T (sound (tableOf words))
-    → AllBytes tape
     → Turns words tape
-ending-by take-turn zero words tape l s a = absurd (omega arith)
-ending-by take-turn (suc k) words tape l s a =
+ending-by take-turn zero words tape l s = absurd (omega arith)
+ending-by take-turn (suc k) words tape l s =
     let t = take-turn words tape in
     and-then words tape t (t .told .end) refl
     (λ e.
     let h = going words tape _ _ _ _ _ e (turn-left words tape t s) in
-    ending-by take-turn k (t .words′) (restAfter t) (omega (arith, shorter words tape _ _ _ _ a h)) (h .sound-still) (bytes-drop (length tape - t .told .unread) tape a))
+    ending-by take-turn k (t .words′) (restAfter t) (omega (arith, shorter words tape _ _ _ _ h)) (h .sound-still))
 
 -- ---- the rest, and what stands behind the answers
 
@@ -154,11 +150,24 @@ unfolding requestsOf
 none-there zero rest h = refl
 none-there (suc m) rest h = rw (read-bad-exactly rest .1 h)
 
-pub all-read : (n : ℕ) (tape rest : List ℕ) (end : TurnEnd) → AllBytes tape → Between n tape rest → RestBy end rest → requestsOf n tape ≡ allRequests tape
-all-read n tape rest end a b h =
-    let m = length tape - n in
-    let e : length tape ≡ n + m = omega (arith, four-each n tape rest a b) in
-    sym (ap (λ (k : ℕ). requestsOf k tape) e ∙ requests-joined n m tape rest b ∙ rw (none-there m rest (bad-rest end rest h), append-nil))
+-- and a bad record stays
+stays-there : (m : ℕ) (rest : List ℕ) → reading.Bad rest → behindOf m rest ≡ rest
+unfolding behindOf
+stays-there zero rest h = refl
+stays-there (suc m) rest h = rw (read-bad-exactly rest .1 h)
+
+module _ (n : ℕ) (tape rest : List ℕ) (end : TurnEnd) (b : Between n tape rest) (h : RestBy end rest) where
+  abbrev m : ℕ
+  m = length tape - n
+
+  enough : length tape ≡ n + m
+  enough = omega (arith, four-each n tape rest b)
+
+  pub all-read : requestsOf n tape ≡ allRequests tape
+  all-read = sym (ap (λ (k : ℕ). requestsOf k tape) enough ∙ requests-joined n m tape rest b ∙ rw (none-there m rest (bad-rest end rest h), append-nil))
+
+  behind-all : behindRequests tape ≡ rest
+  behind-all = ap (λ (k : ℕ). behindOf k tape) enough ∙ behind-joined n m tape rest b ∙ stays-there m rest (bad-rest end rest h)
 
 -- ---- in one formula
 
@@ -171,21 +180,17 @@ same-behind NotSound rest h = absurd h
 
 pub in-one :
     (begin n : ℕ) (tape rest wrote : List ℕ) (end : TurnEnd)
-    → AllBytes tape
     → Between n tape rest
     → RestBy end rest
     → wrote ≡ bytesOf (inARow (requestsOf n tape) (fresh begin) .said) ++ bytesOf (lastRecords end)
     → wrote ≡ programWrites begin tape
 unfolding programWrites
-in-one begin n tape rest wrote end a b h e =
-    let qs = allRequests tape in
-    let all = all-read n tape rest end a b h in
-    let parts : tape ≡ tapeOf qs ++ rest = before-rest n tape rest a b ∙ ap (λ (rs : List Request). tapeOf rs ++ rest) all in
-    let behind : drop (length (tapeOf qs)) tape ≡ rest = ap (drop (length (tapeOf qs))) parts ∙ drop-append-seam (tapeOf qs) rest in
+in-one begin n tape rest wrote end b h e =
+    let answers = bytesOf (inARow (allRequests tape) (fresh begin) .said) in
     e
-    ∙ ap (λ (rs : List Request). bytesOf (inARow rs (fresh begin) .said) ++ bytesOf (lastRecords end)) all
-    ∙ ap (λ (bs : List ℕ). bytesOf (inARow qs (fresh begin) .said) ++ bs) (same-behind end rest h ∙ ap (λ (l : List ℕ). bytesOf (endOfTape l)) (sym behind))
-    ∙ sym (bytes-of-joined (inARow qs (fresh begin) .said) (endOfTape (drop (length (tapeOf qs)) tape)))
+    ∙ ap (λ (rs : List Request). bytesOf (inARow rs (fresh begin) .said) ++ bytesOf (lastRecords end)) (all-read n tape rest end b h)
+    ∙ ap (λ (bs : List ℕ). answers ++ bs) (same-behind end rest h ∙ ap (λ (l : List ℕ). bytesOf (endOfTape l)) (sym (behind-all n tape rest end b h)))
+    ∙ sym (bytes-of-joined (inARow (allRequests tape) (fresh begin) .said) (endOfTape (behindRequests tape)))
 
 -- ---- a table that was made
 

@@ -19,7 +19,8 @@ use Rattle.rules.specs.Run.{requestsOf}
 use Rattle.rules.proofs.TapeRequests.{as-many}
 use Rattle.outcome.specs.Call.{Call}
 use Rattle.outcome.specs.Tape.{Tape}
-use Rattle.theorems_promises.specs.InARow.{tapeOf, inARow}
+use Rattle.theorems_promises.specs.Tapes.{Holds}
+use Rattle.theorems_promises.specs.InARow.{inARow}
 use Rattle.theorems_promises.proofs.RunCounts.{counts-records}
 use Rattle.theorems_promises.proofs.TapeEnd.{before-rest}
 use Rattle.theorems_promises.proofs.BytesLeft.{accepted-left, refused-left, call-fits, call-left, run-left}
@@ -65,10 +66,10 @@ module _ (allowance : ℕ) (words bytes tape : List ℕ) (stop refusal handled w
   pub run-table : tableOf words′ ≡ inARow (requestsOf handled tape) (tableOf words) .table
   run-table = run-left words bytes tape stop refusal handled written rest words′ bytes′ allowance h .table
 
-  -- those requests are the ones between the tape's start and the rest: as many as the run counts, and, on a tape of bytes, their
-  -- records one after another with the rest behind them are the tape
+  -- those requests are the ones between the tape's start and the rest: as many as the run counts, and, on a tape of bytes, the tape is
+  -- their records one after another, each exact or padded, with the rest behind them
   pub run-requests : length (requestsOf handled tape) ≡ handled
   run-requests = as-many handled tape rest (counts-records words bytes tape stop refusal handled written rest words′ bytes′ allowance h)
 
-  pub run-tape : AllBytes tape → tape ≡ tapeOf (requestsOf handled tape) ++ rest
+  pub run-tape : AllBytes tape → Holds (requestsOf handled tape) tape rest
   run-tape a = before-rest handled tape rest a (counts-records words bytes tape stop refusal handled written rest words′ bytes′ allowance h)

@@ -11,7 +11,8 @@ use Rattle.record.specs.Writing.{bytesOf}
 use Rattle.rules.specs.Run.{requestsOf}
 use Rattle.rules.specs.Script.{meet, printed}
 use Rattle.rules.proofs.Script.{all-rules}
-use Rattle.theorems_promises.specs.InARow.{tapeOf, answeredAndEnded, inARow}
+use Rattle.theorems_promises.specs.Tapes.{tapeOf}
+use Rattle.theorems_promises.specs.InARow.{answeredAndEnded, inARow}
 
 -- "conflict 0, 1 (touches 0, 1, vertices 10, 11), then list"
 both : List Request

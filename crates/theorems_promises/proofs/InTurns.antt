@@ -19,11 +19,12 @@ use Rattle.record.specs.Reading.{Bad}
 use Rattle.record.specs.Writing.{bytesOf}
 use Rattle.rules.specs.Sound.{sound}
 use Rattle.rules.specs.Run.{Between, requestsOf}
-use Rattle.theorems_promises.specs.InARow.{tapeOf, inARow}
+use Rattle.theorems_promises.specs.Tapes.{Holds, allRequests}
+use Rattle.theorems_promises.specs.InARow.{inARow}
 use Rattle.theorems_promises.proofs.TapeEnd.{before-rest}
 use Rattle.tape.specs.declared.turn.TurnEnd.the-variants.{GoesOn}
 use Rattle.theorems_promises.specs.Turns.{OneTurn, Turns, allWritten, allHandled, howMany, lastEnd, lastWords, lastRest, RestBy}
-use Rattle.theorems_promises.specs.Written.{allRequests, programWrites}
+use Rattle.theorems_promises.specs.Written.{programWrites}
 use Rattle.theorems_promises.proofs.RowsJoined.{four-each}
 use Rattle.theorems_promises.proofs.OneTurn.{turn-left}
 use Rattle.theorems_promises.proofs.AllTurns.{going, ending-by, nothing-behind, end-behind, all-read, in-one, fresh-left}
@@ -33,8 +34,8 @@ pub goes-on-handles : (words tape : List ℕ) (t : OneTurn words tape) → T (so
 goes-on-handles words tape t s e = going words tape _ _ _ _ _ e (turn-left words tape t s) .over
 
 -- so turns come to an end, whoever takes them
-pub turns-end : (take-turn : (words tape : List ℕ) → OneTurn words tape) (words tape : List ℕ) → T (sound (tableOf words)) → AllBytes tape → Turns words tape
-turns-end take-turn words tape s a = ending-by take-turn (suc (length tape)) words tape (omega arith) s a
+pub turns-end : (take-turn : (words tape : List ℕ) → OneTurn words tape) (words tape : List ℕ) → T (sound (tableOf words)) → Turns words tape
+turns-end take-turn words tape s = ending-by take-turn (suc (length tape)) words tape (omega arith) s
 
 -- turns on a table that was made, with any begin that making accepts; the program's is 128 (`usualBegin`)
 module _ (begin : ℕ) (before words tape : List ℕ) (made : Made before begin (A.Done 0) words) (ts : Turns words tape) where
@@ -64,17 +65,18 @@ module _ (begin : ℕ) (before words tape : List ℕ) (made : Made before begin 
   pub few-turns : howMany ts ≤ allHandled ts + 1
   few-turns = fresh-left begin before words tape made ts .few
 
-  -- on a tape of bytes: the records handled and the rest are the tape; those are all requests of the tape; what is written, in one
-  -- formula; and 65,536 bytes take at most 16,385 turns
-  module _ (bytes : AllBytes tape) where
-    pub tape-parts : tape ≡ tapeOf (requestsOf (allHandled ts) tape) ++ lastRest ts
-    tape-parts = before-rest (allHandled ts) tape (lastRest ts) bytes records-handled
+  -- the requests of those records are all requests of the tape
+  pub every-request : requestsOf (allHandled ts) tape ≡ allRequests tape
+  every-request = all-read (allHandled ts) tape (lastRest ts) (lastEnd ts) records-handled read-or-bad
 
-    pub every-request : requestsOf (allHandled ts) tape ≡ allRequests tape
-    every-request = all-read (allHandled ts) tape (lastRest ts) (lastEnd ts) bytes records-handled read-or-bad
+  -- what is written, in one formula
+  pub written-in-all : allWritten ts ≡ programWrites begin tape
+  written-in-all = in-one begin (allHandled ts) tape (lastRest ts) (allWritten ts) (lastEnd ts) records-handled read-or-bad (fresh-left begin before words tape made ts .bytes)
 
-    pub written-in-all : allWritten ts ≡ programWrites begin tape
-    written-in-all = in-one begin (allHandled ts) tape (lastRest ts) (allWritten ts) (lastEnd ts) bytes records-handled read-or-bad (fresh-left begin before words tape made ts .bytes)
+  -- 65,536 bytes take at most 16,385 turns
+  pub few-turns-by-bytes : 4 * howMany ts ≤ length tape + 4
+  few-turns-by-bytes = omega (arith, few-turns, four-each (allHandled ts) tape (lastRest ts) records-handled)
 
-    pub few-turns-by-bytes : 4 * howMany ts ≤ length tape + 4
-    few-turns-by-bytes = omega (arith, few-turns, four-each (allHandled ts) tape (lastRest ts) bytes records-handled)
+  -- a tape of bytes is the records handled, each exact or padded, and the rest
+  pub tape-parts : AllBytes tape → Holds (requestsOf (allHandled ts) tape) tape (lastRest ts)
+  tape-parts bytes = before-rest (allHandled ts) tape (lastRest ts) bytes records-handled

@@ -32,4 +32,10 @@ pub mod OneTurn
 pub mod AllTurns
 pub mod InTurns
 pub mod Printed
+pub mod Unpadded
+pub mod UnpaddedRun
+pub mod PaddedTapes
+pub mod Trips
+pub mod RoundTrips
+pub mod PaddedExamples
 pub mod TurnUnique

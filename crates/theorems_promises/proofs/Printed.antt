@@ -3,19 +3,17 @@
 use mathlib.Core.Path.{_≡_, refl, _∙_}
 use mathlib.Core.List.{List, [], _∷_, _++_}
 use Prim.Native.Nat.{ℕ}
-use native.Mathlib.Omega.{arith}
 use Rattle.table.specs.Making.{Made}
 use Rattle.refusal.specs.declared.Answer.the-variants as A
 use Rattle.record.specs.declared.request.Request.the-variants as Q
-use Rattle.record.specs.Fields.{AllBytes}
 use Rattle.record.specs.Kinds.{layoutOf}
 use Rattle.record.specs.Records.{requestBytes, answerBytes}
 use Rattle.record.specs.Reading as reading
 use Rattle.record.specs.Writing.{bytesOf}
 use Rattle.rules.specs.Script.{meet, printed}
 use Rattle.rules.proofs.Script.{all-rules}
-use Rattle.theorems_promises.specs.InARow.{tapeOf, answeredAndEnded, inARow}
-use Rattle.rules.specs.Run.{requestsOf}
+use Rattle.theorems_promises.specs.InARow.{answeredAndEnded, inARow}
+use Rattle.rules.specs.Run.{requestsOf, behindOf}
 use Rattle.tape.specs.Program.{usualBegin}
 use Rattle.theorems_promises.specs.Turns.{Turns, allWritten}
 use Rattle.theorems_promises.specs.Written.{programWrites}
@@ -29,12 +27,8 @@ formula-printed :
     (programWrites usualBegin tape ≡ printed)
     × (programWrites usualBegin [] ≡ [])
     × (programWrites usualBegin (tape ++ 7 ∷ []) ≡ printed ++ 0x06 ∷ 0x00 ∷ 0x13 ∷ 0x00 ∷ 0x0C ∷ 0x00 ∷ 0x00 ∷ 0x00 ∷ [])
-unfolding all-rules programWrites tape printed requestsOf tapeOf answeredAndEnded inARow bytesOf requestBytes answerBytes layoutOf reading.read
+unfolding all-rules programWrites tape printed requestsOf behindOf answeredAndEnded inARow bytesOf requestBytes answerBytes layoutOf reading.read
 formula-printed = (refl, refl, refl)
 
-tape-bytes : AllBytes tape
-unfolding tape requestBytes
-tape-bytes = search arith
-
 pub program-prints : (before words : List ℕ) → Made before usualBegin (A.Done 0) words → (ts : Turns words tape) → allWritten ts ≡ printed
-program-prints before words made ts = written-in-all usualBegin before words tape made ts tape-bytes ∙ formula-printed .0
+program-prints before words made ts = written-in-all usualBegin before words tape made ts ∙ formula-printed .0

@@ -5,21 +5,15 @@ use Prim.Native.Nat.{ℕ, zero, suc, _+_, _*_, _≤_}
 use native.Mathlib.Nat.{zero-add, suc-add}
 use native.Mathlib.Omega.{arith}
 use lib.ListN.{length, drop, length-drop}
-use lib.Seq.{length-take-le}
 use Rattle.table.specs.Table.{Table}
 use Rattle.record.specs.declared.request.Request.{Request}
-use Rattle.record.specs.declared.request.Reading.the-variants as G
 use Rattle.record.specs.declared.answer.Record.{Record}
-use Rattle.record.specs.Fields.{AllBytes}
-use Rattle.record.specs.Records.{requestBytes}
-use Rattle.record.specs.Reading as reading
 use Rattle.record.specs.Writing.{bytesOf}
-use Rattle.record.proofs.Codec.{bytes-drop}
-use Rattle.record.proofs.Theorems.{read-request, read-request-size}
+use Rattle.record.proofs.Theorems.{read-request-four, read-request-size}
 use Rattle.rules.specs.Act.{Act, Did, skip, _then_}
-use Rattle.rules.specs.Run.{Between, requestsOf}
+use Rattle.rules.specs.Run.{Between, requestsOf, behindOf}
 use Rattle.theorems_promises.specs.InARow.{answeredAndEnded, inARow}
-use Rattle.rules.proofs.TapeRequests.{first-request}
+use Rattle.rules.proofs.TapeRequests.{first-request, behind-first}
 
 -- ---- the tape
 
@@ -33,19 +27,15 @@ pub between-joined : (n m : ℕ) (tape middle rest : List ℕ) → Between n tap
 between-joined zero m tape middle rest b c = rw (zero-add, b) c
 between-joined (suc n) m tape middle rest (q, size, r, b) c = rw suc-add (q, size, r, between-joined n m (drop size tape) middle rest b c)
 
+pub behind-joined : (n m : ℕ) (tape rest : List ℕ) → Between n tape rest → behindOf (n + m) tape ≡ behindOf m rest
+behind-joined zero m tape rest b = rw (zero-add, b)
+behind-joined (suc n) m tape rest (q, size, r, b) = rw (suc-add, behind-first (n + m) tape q size r) (behind-joined n m (drop size tape) rest b)
+
 -- a record has at least four bytes
-four : (q : Request) → 4 ≤ length (requestBytes q)
-unfolding requestBytes
-four q = omega arith
-
-four-read : (tape : List ℕ) (q : Request) (size : ℕ) → AllBytes tape → reading.read tape ≡ G.Request q size → 4 ≤ size
-four-read tape q size a r =
-    omega (arith, four q, ap length (read-request tape q size a r), length-take-le size tape (read-request-size tape q size r))
-
-pub four-each : (n : ℕ) (tape rest : List ℕ) → AllBytes tape → Between n tape rest → 4 * n + length rest ≤ length tape
-four-each zero tape rest a b = omega (arith, ap length b)
-four-each (suc n) tape rest a (q, size, r, b) =
-    omega (arith, four-read tape q size a r, read-request-size tape q size r, length-drop size tape, four-each n (drop size tape) rest (bytes-drop size tape a) b)
+pub four-each : (n : ℕ) (tape rest : List ℕ) → Between n tape rest → 4 * n + length rest ≤ length tape
+four-each zero tape rest b = omega (arith, ap length b)
+four-each (suc n) tape rest (q, size, r, b) =
+    omega (arith, read-request-four tape q size r, read-request-size tape q size r, length-drop size tape, four-each n (drop size tape) rest b)
 
 -- ---- the answers
 

@@ -1,20 +1,16 @@
--- What stands behind some records of a tape is the tape's end, and what stands before it is the bytes of the requests read.
+-- What stands behind some records of a tape is the tape's end, and before it stand the requests read, each exact or padded.
 use mathlib.Core.Path.{_≡_, sym, ap, _∙_}
 use mathlib.Core.List.{List, [], _++_, append-assoc}
 use Prim.Native.Nat.{ℕ, zero, suc, _-_}
 use native.Mathlib.Omega.{arith}
 use lib.ListN.{length, take, drop, length-append, take-append-drop}
 use lib.Seq.{drop-append-seam}
-use Rattle.record.specs.declared.request.Request.{Request}
-use Rattle.record.specs.declared.request.Reading.the-variants as G
 use Rattle.record.specs.Fields.{AllBytes}
-use Rattle.record.specs.Records.{requestBytes}
-use Rattle.record.specs.Reading as reading
 use Rattle.record.proofs.Codec.{bytes-drop}
 use Rattle.record.proofs.Theorems.{read-request}
 use Rattle.rules.specs.Run.{Between, requestsOf}
 use Rattle.rules.proofs.TapeRequests.{first-request}
-use Rattle.theorems_promises.specs.InARow.{tapeOf}
+use Rattle.theorems_promises.specs.Tapes.{Holds}
 
 -- tape ends with rest
 record Ends (tape rest : List ℕ) : Type 0 where
@@ -38,22 +34,10 @@ behind-records n tape rest b =
 
 -- ---- the requests of those records
 
-one-before :
-    (n : ℕ) (tape rest : List ℕ) (q : Request) (size : ℕ)
-    → requestBytes q ≡ take size tape
-    → reading.read tape ≡ G.Request q size
-    → drop size tape ≡ tapeOf (requestsOf n (drop size tape)) ++ rest
-    → tape ≡ tapeOf (requestsOf (suc n) tape) ++ rest
-unfolding tapeOf
-one-before n tape rest q size e r later =
-    rw (first-request n tape q size r)
-    (sym (take-append-drop size tape)
-    ∙ ap (λ (l : List ℕ). l ++ drop size tape) (sym e)
-    ∙ ap (λ (l : List ℕ). requestBytes q ++ l) later
-    ∙ sym (append-assoc (requestBytes q) (tapeOf (requestsOf n (drop size tape))) rest))
-
-pub before-rest : (n : ℕ) (tape rest : List ℕ) → AllBytes tape → Between n tape rest → tape ≡ tapeOf (requestsOf n tape) ++ rest
-unfolding requestsOf tapeOf
+-- read from the tape's start they stand there one after another, each exact or padded
+pub before-rest : (n : ℕ) (tape rest : List ℕ) → AllBytes tape → Between n tape rest → Holds (requestsOf n tape) tape rest
+unfolding requestsOf
 before-rest zero tape rest a b = b
 before-rest (suc n) tape rest a (q, size, r, b) =
-    one-before n tape rest q size (read-request tape q size a r) r (before-rest n (drop size tape) rest (bytes-drop size tape a) b)
+    rw (first-request n tape q size r)
+    (take size tape, drop size tape, sym (take-append-drop size tape), read-request tape q size a r, before-rest n (drop size tape) rest (bytes-drop size tape a) b)

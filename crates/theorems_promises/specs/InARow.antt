@@ -1,16 +1,9 @@
 -- What the requests of a tape (`requestsOf` of rules/specs/Run) are answered, one after another.
-use Prim.Native.Nat.{ℕ}
 use mathlib.Core.List.{List, [], _∷_, _++_}
 use Rattle.record.specs.declared.request.Request.{Request}
-use Rattle.record.specs.Records.{requestBytes}
 use Rattle.rules.specs.Act.{Act, skip, _then_}
 use Rattle.rules.specs.Calls.{verdict, endRecord, answered}
 use Rattle.rules.specs.Run.{runRoom}
-
--- the bytes of requests one after another, as a tape holds them
-unfoldable pub tapeOf : List Request → List ℕ
-tapeOf [] = []
-tapeOf (q ∷ qs) = requestBytes q ++ tapeOf qs
 
 -- one request: its records and then its end record, "0 or the refusal" and the side; "A refused request yields only its end record".
 -- A run goes on with 4,104 bytes or more, and with any such room a request is answered the same (`verdict-in-a-run` of CommandsFit).

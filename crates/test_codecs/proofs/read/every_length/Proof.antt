@@ -5,10 +5,10 @@ use Rattle.test_codecs.proofs.read.every_length.Statement.{statement}
 use Rattle.test_codecs.proofs.read.every_length.Tie as tie
 
 abbrev Inv-loop : tie.InvT-loop
-Inv-loop kind length₀ t5 t6 length = length ≤ 28
+Inv-loop kind byte length₀ t6 t7 length = length ≤ 28
 
 abbrev μ-loop : tie.MeasureT-loop
-μ-loop kind length₀ t5 t6 length = 28 - length
+μ-loop kind byte length₀ t6 t7 length = 28 - length
 
 pub every-length-spec : {M : Type 1} → statement M
 every-length-spec =
@@ -16,6 +16,8 @@ every-length-spec =
     (tie.spec
     Inv-loop
     μ-loop
+    (λ c. search needs)
+    (λ c κs. search needs)
     (λ c. search needs)
     (λ c κs. search needs)
     (λ c. search needs)
