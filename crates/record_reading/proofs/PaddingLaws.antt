@@ -9,6 +9,7 @@ use lib.ListN.{length, getD, take, drop}
 use lib.Seq.{drop-cons}
 use borrow.Author.Tests.{eq-eqb, ne-eqb}
 use Rattle.record.specs.Padding.{paddedLength, areZero, hasItsLength}
+use Rattle.record.proofs.Padding.{misses-otherwise}
 
 -- whether the bytes of l from i up to j are zero
 abbrev pub zeroFrom : List ℕ → ℕ → ℕ → Bool
@@ -30,19 +31,15 @@ module _ (l : List ℕ) (i j : ℕ) where
     pub zeros-more : getD l i 0 ≡ 0 → zeroFrom l (i + 1) j ≡ zeroFrom l i j
     zeros-more h = rw (one-more, eq-eqb (getD l i 0) 0 h)
 
--- ---- the test of a length
+-- ---- the test of a length that is not the exact one
 
-module _ (exact n : ℕ) (l : List ℕ) where
-  pub its-length : n ≡ exact → hasItsLength exact n l ≡ true
-  its-length e = rw (eq-eqb n exact e)
+module _ (exact n : ℕ) (l : List ℕ) (other : n ≡ exact → ⊥) (zeros : ℕ) (p : zeros ≡ paddedLength exact - exact) where
+  pub other-length : (n ≡ exact + zeros → ⊥) → hasItsLength exact n l ≡ false
+  other-length h = misses-otherwise exact n l other (λ e. h (omega arith))
 
-  module _ (other : n ≡ exact → ⊥) (zeros : ℕ) (p : zeros ≡ paddedLength exact - exact) where
-    pub other-length : (n ≡ exact + zeros → ⊥) → hasItsLength exact n l ≡ false
-    other-length h = rw (ne-eqb n exact other, ne-eqb n (paddedLength exact) (λ e. h (omega arith)))
-
-    pub padded-length : n ≡ exact + zeros → zeroFrom l (exact + 2) (n + 2) ≡ hasItsLength exact n l
-    padded-length h =
-        let e : n ≡ paddedLength exact = omega arith in
-        let f : n + 2 - (exact + 2) ≡ n - exact = omega arith in
-        let g : exact + 2 ≡ 2 + exact = omega arith in
-        rw (ne-eqb n exact other, eq-eqb n (paddedLength exact) e, f, g)
+  pub padded-length : n ≡ exact + zeros → zeroFrom l (exact + 2) (n + 2) ≡ hasItsLength exact n l
+  padded-length h =
+      let e : n ≡ paddedLength exact = omega arith in
+      let f : n + 2 - (exact + 2) ≡ n - exact = omega arith in
+      let g : exact + 2 ≡ 2 + exact = omega arith in
+      rw (ne-eqb n exact other, eq-eqb n (paddedLength exact) e, f, g)

@@ -30,7 +30,7 @@ use Rattle.tape.specs.declared.turn.TurnEnd.{TurnEnd}
 use Rattle.tape.specs.declared.turn.TurnEnd.the-variants.{TapeRead, GoesOn, BadTape, NotSound}
 use Rattle.theorems_promises.specs.Turns.{OneTurn, restAfter, Turns, last, next, allWritten, allHandled, howMany, lastEnd, lastWords, lastRest, RestBy}
 use Rattle.theorems_promises.specs.Written.{endOfTape, programWrites}
-use Rattle.theorems_promises.proofs.RowsJoined.{requests-joined, behind-joined, between-joined, joined-table, joined-bytes, bytes-of-joined, four-each}
+use Rattle.theorems_promises.proofs.RowsJoined.{requests-joined, behind-joined, none-behind-bad, between-joined, joined-table, joined-bytes, bytes-of-joined, four-each}
 use Rattle.theorems_promises.proofs.OneTurn.{RestOr, Left, turn-left}
 
 -- so many turns on these words and this tape left these words, having handled so many records; how they ended, the rest, what they wrote
@@ -145,17 +145,6 @@ bad-rest BadTape rest h = h .1
 bad-rest GoesOn rest h = absurd h
 bad-rest NotSound rest h = absurd h
 
-none-there : (m : ℕ) (rest : List ℕ) → reading.Bad rest → requestsOf m rest ≡ []
-unfolding requestsOf
-none-there zero rest h = refl
-none-there (suc m) rest h = rw (read-bad-exactly rest .1 h)
-
--- and a bad record stays
-stays-there : (m : ℕ) (rest : List ℕ) → reading.Bad rest → behindOf m rest ≡ rest
-unfolding behindOf
-stays-there zero rest h = refl
-stays-there (suc m) rest h = rw (read-bad-exactly rest .1 h)
-
 module _ (n : ℕ) (tape rest : List ℕ) (end : TurnEnd) (b : Between n tape rest) (h : RestBy end rest) where
   abbrev m : ℕ
   m = length tape - n
@@ -163,11 +152,14 @@ module _ (n : ℕ) (tape rest : List ℕ) (end : TurnEnd) (b : Between n tape re
   enough : length tape ≡ n + m
   enough = omega (arith, four-each n tape rest b)
 
+  nothing-more : (requestsOf m rest ≡ []) × (behindOf m rest ≡ rest)
+  nothing-more = none-behind-bad m rest BadRecord (read-bad-exactly rest .1 (bad-rest end rest h))
+
   pub all-read : requestsOf n tape ≡ allRequests tape
-  all-read = sym (ap (λ (k : ℕ). requestsOf k tape) enough ∙ requests-joined n m tape rest b ∙ rw (none-there m rest (bad-rest end rest h), append-nil))
+  all-read = sym (ap (λ (k : ℕ). requestsOf k tape) enough ∙ requests-joined n m tape rest b ∙ rw (nothing-more .0, append-nil))
 
   behind-all : behindRequests tape ≡ rest
-  behind-all = ap (λ (k : ℕ). behindOf k tape) enough ∙ behind-joined n m tape rest b ∙ stays-there m rest (bad-rest end rest h)
+  behind-all = ap (λ (k : ℕ). behindOf k tape) enough ∙ behind-joined n m tape rest b ∙ nothing-more .1
 
 -- ---- in one formula
 

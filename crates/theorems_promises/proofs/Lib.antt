@@ -35,7 +35,7 @@ pub mod Printed
 pub mod Unpadded
 pub mod UnpaddedRun
 pub mod PaddedTapes
-pub mod Trips
+pub mod WrittenRequest
 pub mod RoundTrips
 pub mod PaddedExamples
 pub mod TurnUnique

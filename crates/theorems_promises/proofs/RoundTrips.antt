@@ -1,4 +1,5 @@
--- "Records read and written round trip", of whatever keeps the promises of the calls that read and write a record. The work is in Trips.
+-- "Records read and written round trip", of whatever keeps the promises of the calls that read and write a record. The work is in
+-- WrittenRequest.
 use mathlib.Core.Path.{_≡_}
 use mathlib.Core.List.{List, _++_}
 use Prim.Native.Nat.{ℕ, _+_}
@@ -12,7 +13,7 @@ use Rattle.record.specs.Records.{requestKind, requestBytes, RequestFits}
 use Rattle.record.specs.Padding.{unpadded}
 use Rattle.record.specs.Reading.{Read}
 use Rattle.record.specs.Writing.{outOf, wroteOf, wrote}
-use Rattle.theorems_promises.proofs.Trips.{written-again, read-again}
+use Rattle.theorems_promises.proofs.WrittenRequest.{written-again, read-again}
 
 module _ (q : Request) (bytes : List ℕ) (pos m : ℕ) (bytes′ : List ℕ) (w : wroteOf bytes′ (Done m) ≡ wrote (outOf bytes pos) (requestBytes q)) where
   -- written by a call that had room, and read from its place: the request and the bytes written

@@ -6,8 +6,11 @@ use native.Mathlib.Nat.{zero-add, suc-add}
 use native.Mathlib.Omega.{arith}
 use lib.ListN.{length, drop, length-drop}
 use Rattle.table.specs.Table.{Table}
+use Rattle.refusal.specs.declared.Refusal.{Refusal}
 use Rattle.record.specs.declared.request.Request.{Request}
+use Rattle.record.specs.declared.request.Reading.the-variants as G
 use Rattle.record.specs.declared.answer.Record.{Record}
+use Rattle.record.specs.Reading as reading
 use Rattle.record.specs.Writing.{bytesOf}
 use Rattle.record.proofs.Theorems.{read-request-four, read-request-size}
 use Rattle.rules.specs.Act.{Act, Did, skip, _then_}
@@ -30,6 +33,12 @@ between-joined (suc n) m tape middle rest (q, size, r, b) c = rw suc-add (q, siz
 pub behind-joined : (n m : ℕ) (tape rest : List ℕ) → Between n tape rest → behindOf (n + m) tape ≡ behindOf m rest
 behind-joined zero m tape rest b = rw (zero-add, b)
 behind-joined (suc n) m tape rest (q, size, r, b) = rw (suc-add, behind-first (n + m) tape q size r) (behind-joined n m (drop size tape) rest b)
+
+-- behind a bad record there is no request, and it stays
+pub none-behind-bad : (n : ℕ) (tape : List ℕ) (m : Refusal) → reading.read tape ≡ G.Refused m → (requestsOf n tape ≡ []) × (behindOf n tape ≡ tape)
+unfolding requestsOf behindOf
+none-behind-bad zero tape m e = (refl, refl)
+none-behind-bad (suc n) tape m e = (rw e, rw e)
 
 -- a record has at least four bytes
 pub four-each : (n : ℕ) (tape rest : List ℕ) → Between n tape rest → 4 * n + length rest ≤ length tape

@@ -1,7 +1,7 @@
 -- A tape and the same tape without its padding: read step by step, run step by step.
 use mathlib.Core.Path.{_≡_, refl, sym, ap, _∙_}
 use mathlib.Core.Bool.{Bool, true, false}
-use mathlib.Core.List.{List, [], _∷_, _++_, append-assoc}
+use mathlib.Core.List.{List, _∷_, _++_, append-assoc}
 use Prim.Native.Nat.{ℕ, zero, suc, _+_, _-_, _≤_}
 use native.Mathlib.Omega.{arith}
 use lib.Dec.{eqb, ltb}
@@ -23,14 +23,10 @@ use Rattle.rules.specs.Act.{World}
 use Rattle.rules.specs.Sound.{sound}
 use Rattle.rules.specs.Run.{Progress, Ended, Ran, unsound, ran, tapeEmpty, allowanceUsed, outputFull, badRecord, stopped, advanced, goOn, room, began, runFrom, runTape, runRoom, requestsOf, behindOf}
 use Rattle.rules.proofs.TapeRequests.{first-request, behind-first}
+use Rattle.theorems_promises.proofs.RowsJoined.{none-behind-bad}
 use Rattle.theorems_promises.specs.Tapes.{tapeOf, allRequests, behindRequests, unpaddedTape}
 
 -- ---- a tape has no more records than bytes
-
-none-behind-bad : (n : ℕ) (tape : List ℕ) (m : Refusal) → reading.read tape ≡ G.Refused m → (requestsOf n tape ≡ []) × (behindOf n tape ≡ tape)
-unfolding requestsOf behindOf
-none-behind-bad zero tape m e = (refl, refl)
-none-behind-bad (suc n) tape m e = (rw e, rw e)
 
 abbrev Alike : ℕ → ℕ → List ℕ → Type 0
 Alike n m tape = (requestsOf n tape ≡ requestsOf m tape) × (behindOf n tape ≡ behindOf m tape)
@@ -164,52 +160,52 @@ module _ (tape : List ℕ) (a : AllBytes tape) where
 
 -- ---- a run of it
 
-abbrev pub exactly : Progress → Progress
-exactly p = record { world = p .world; rest = unpaddedTape (p .rest); handled = p .handled }
+abbrev pub unpaddedProgress : Progress → Progress
+unpaddedProgress p = record { world = p .world; rest = unpaddedTape (p .rest); handled = p .handled }
 
-abbrev pub endedExactly : Ended → Ended
-endedExactly e = stopped (e .stop) (exactly (e .progress))
+abbrev pub unpaddedEnded : Ended → Ended
+unpaddedEnded e = stopped (e .stop) (unpaddedProgress (e .progress))
 
-through : (b : Bool) (e f : Ended) → endedExactly (pick b e f) ≡ pick b (endedExactly e) (endedExactly f)
+through : (b : Bool) (e f : Ended) → unpaddedEnded (pick b e f) ≡ pick b (unpaddedEnded e) (unpaddedEnded f)
 through true e f = refl
 through false e f = refl
 
-advanced-exactly : (p : Progress) → AllBytes (p .rest) → (q : Request) (size : ℕ) → reading.read (p .rest) ≡ G.Request q size → advanced q (length (requestBytes q)) (exactly p) ≡ exactly (advanced q size p)
-advanced-exactly p a q size e = rw (behind-exact (p .rest) a q size e)
+advanced-unpadded : (p : Progress) → AllBytes (p .rest) → (q : Request) (size : ℕ) → reading.read (p .rest) ≡ G.Request q size → advanced q (length (requestBytes q)) (unpaddedProgress p) ≡ unpaddedProgress (advanced q size p)
+advanced-unpadded p a q size e = rw (behind-exact (p .rest) a q size e)
 
 go-on-by :
     (more : Progress → Ended)
-    → ((p : Progress) → AllBytes (p .rest) → more (exactly p) ≡ endedExactly (more p))
+    → ((p : Progress) → AllBytes (p .rest) → more (unpaddedProgress p) ≡ unpaddedEnded (more p))
     → (p : Progress)
     → AllBytes (p .rest)
     → (r : Reading)
     → reading.read (p .rest) ≡ r
-    → goOn more (reading.read (unpaddedTape (p .rest))) (exactly p) ≡ endedExactly (goOn more (reading.read (p .rest)) p)
+    → goOn more (reading.read (unpaddedTape (p .rest))) (unpaddedProgress p) ≡ unpaddedEnded (goOn more (reading.read (p .rest)) p)
 go-on-by more h p a (G.Refused m) e =
     let stays = unpadded-bad (p .rest) m e in
     rw (stays, e) (ap (λ (l : List ℕ). stopped badRecord (record { world = p .world; rest = l; handled = p .handled })) (sym stays))
 go-on-by more h p a (G.Request q size) e =
     rw (read-exact (p .rest) a q size e, e)
-    (ap more (advanced-exactly p a q size e) ∙ h (advanced q size p) (bytes-drop size (p .rest) a))
+    (ap more (advanced-unpadded p a q size e) ∙ h (advanced q size p) (bytes-drop size (p .rest) a))
 
-pub run-exactly : (k : ℕ) (p : Progress) → AllBytes (p .rest) → runFrom k (exactly p) ≡ endedExactly (runFrom k p)
+pub run-unpadded : (k : ℕ) (p : Progress) → AllBytes (p .rest) → runFrom k (unpaddedProgress p) ≡ unpaddedEnded (runFrom k p)
 unfolding runFrom
-run-exactly zero p a = rw (empty-alike (p .rest)) (sym (through (eqb (length (p .rest)) 0) (stopped tapeEmpty p) (stopped allowanceUsed p)))
-run-exactly (suc k) p a =
+run-unpadded zero p a = rw (empty-alike (p .rest)) (sym (through (eqb (length (p .rest)) 0) (stopped tapeEmpty p) (stopped allowanceUsed p)))
+run-unpadded (suc k) p a =
     let next = goOn (runFrom k) (reading.read (p .rest)) p in
-    rw (empty-alike (p .rest), go-on-by (runFrom k) (run-exactly k) p a (reading.read (p .rest)) refl)
-    (ap (pick (eqb (length (p .rest)) 0) (stopped tapeEmpty (exactly p))) (sym (through (ltb (room (p .world)) runRoom) (stopped outputFull p) next))
+    rw (empty-alike (p .rest), go-on-by (runFrom k) (run-unpadded k) p a (reading.read (p .rest)) refl)
+    (ap (pick (eqb (length (p .rest)) 0) (stopped tapeEmpty (unpaddedProgress p))) (sym (through (ltb (room (p .world)) runRoom) (stopped outputFull p) next))
     ∙ sym (through (eqb (length (p .rest)) 0) (stopped tapeEmpty p) (pick (ltb (room (p .world)) runRoom) (stopped outputFull p) next)))
 
-abbrev pub ranExactly : Ran → Ran
-ranExactly unsound = unsound
-ranExactly (ran e) = ran (endedExactly e)
+abbrev pub unpaddedRan : Ran → Ran
+unpaddedRan unsound = unsound
+unpaddedRan (ran e) = ran (unpaddedEnded e)
 
-ran-through : (b : Bool) (e : Ended) → pick b (ran (endedExactly e)) unsound ≡ ranExactly (pick b (ran e) unsound)
+ran-through : (b : Bool) (e : Ended) → pick b (ran (unpaddedEnded e)) unsound ≡ unpaddedRan (pick b (ran e) unsound)
 ran-through true e = refl
 ran-through false e = refl
 
-pub run-tape-exactly : (allowance : ℕ) (w : World) (tape : List ℕ) → AllBytes tape → runTape allowance w (unpaddedTape tape) ≡ ranExactly (runTape allowance w tape)
+pub run-tape-unpadded : (allowance : ℕ) (w : World) (tape : List ℕ) → AllBytes tape → runTape allowance w (unpaddedTape tape) ≡ unpaddedRan (runTape allowance w tape)
 unfolding runTape
-run-tape-exactly allowance w tape a =
-    rw (run-exactly allowance (began w tape) a) (ran-through (sound (w .table)) (runFrom allowance (began w tape)))
+run-tape-unpadded allowance w tape a =
+    rw (run-unpadded allowance (began w tape) a) (ran-through (sound (w .table)) (runFrom allowance (began w tape)))

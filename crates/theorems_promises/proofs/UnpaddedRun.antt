@@ -17,14 +17,14 @@ use Rattle.outcome.specs.Tape.{HandsOut, Tape}
 use Rattle.theorems_promises.specs.Tapes.{allRequests, behindRequests, unpaddedTape}
 use Rattle.theorems_promises.specs.InARow.{inARow}
 use Rattle.theorems_promises.specs.Written.{endOfTape, programWrites}
-use Rattle.theorems_promises.proofs.Unpadded.{ranExactly, run-tape-exactly, requests-alike, behind-alike, empty-alike}
+use Rattle.theorems_promises.proofs.Unpadded.{unpaddedRan, run-tape-unpadded, requests-alike, behind-alike, empty-alike}
 
 -- ---- the run
 
 handed-by :
     (r : Ran) (words lent tape : List ℕ) (stop refusal handled written : ℕ) (rest words′ lent′ : List ℕ)
     → HandsOut r words lent tape stop refusal handled written rest words′ lent′
-    → HandsOut (ranExactly r) words lent (unpaddedTape tape) stop refusal handled written (unpaddedTape rest) words′ lent′
+    → HandsOut (unpaddedRan r) words lent (unpaddedTape tape) stop refusal handled written (unpaddedTape rest) words′ lent′
 handed-by unsound words lent tape stop refusal handled written rest words′ lent′ h = (h .0, h .1, h .2, h .3, ap unpaddedTape (h .4), h .5, h .6)
 handed-by (ran e) words lent tape stop refusal handled written rest words′ lent′ h = (h .0, h .1, h .2, ap unpaddedTape (h .3), h .4)
 
@@ -35,7 +35,7 @@ pub handed-out :
     → Tape allowance words lent tape stop refusal handled written rest words′ lent′
     → Tape allowance words lent (unpaddedTape tape) stop refusal handled written (unpaddedTape rest) words′ lent′
 handed-out tape a allowance words lent stop refusal handled written rest words′ lent′ h =
-    rw (run-tape-exactly allowance (worldOf words lent 0) tape a)
+    rw (run-tape-unpadded allowance (worldOf words lent 0) tape a)
     (handed-by (runTape allowance (worldOf words lent 0) tape) words lent tape stop refusal handled written rest words′ lent′ h)
 
 -- ---- the program

@@ -1,7 +1,8 @@
 use borrow.Author.Needs.{needs}
 use mathlib.Core.Path.{sym, _∙_}
 use native.Mathlib.Omega.{arith}
-use Rattle.record_reading.proofs.PaddingLaws.{its-length, other-length, padded-length}
+use Rattle.record_reading.proofs.PaddingLaws.{other-length, padded-length}
+use Rattle.record.proofs.Padding.{fits-exactly}
 use Rattle.record_reading.proofs.padding.has_its_length.Statement.{statement}
 use Rattle.record_reading.proofs.padding.has_its_length.Tie as tie
 
@@ -9,7 +10,7 @@ pub has-its-length-spec : {M : Type 1} → statement M
 has-its-length-spec =
     tie.close
     (tie.spec
-    (λ c. sym (its-length _ _ _ (c .if1 .taken)))
+    (λ c. sym (fits-exactly _ _ _ (c .if1 .taken)))
     (λ c κs. search needs)
     (λ c. search needs)
     (λ c. search needs)
