@@ -1,3 +1,4 @@
 pub mod Outcomes
 pub mod Verdicts
+pub mod PartnerAnswers
 pub mod RunOutcomes

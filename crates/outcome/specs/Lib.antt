@@ -3,3 +3,5 @@ pub mod Call
 pub mod Tape
 pub mod Told
 pub mod Numbered
+pub mod Partner
+pub mod PartnerInNumbers

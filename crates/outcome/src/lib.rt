@@ -1,6 +1,9 @@
 // What each call promises, and what it answers on a table that is known to be sound, in specs/; the room that it has; and requests
 // and answers in plain numbers.
 pub mod numbered;
+pub mod partner;
+
+pub use partner::Partner;
 
 ghost use mathlib.Core.Path.{_≡_};
 ghost use Prim.Native.Nat.{_-_};

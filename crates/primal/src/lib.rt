@@ -2,6 +2,7 @@
 // position may be passed.
 mod serving;
 
+use outcome::Partner;
 use record::Conflict;
 use record::Expansion;
 use record::Reading;
@@ -11,6 +12,7 @@ use record::VirtualConflict;
 use refusal::Answer;
 use refusal::Refusal;
 use refusal::Side;
+use slot::Node;
 use table::Table;
 use tape::next::Next;
 ghost use mathlib.Core.Path.{_≡_};
@@ -22,6 +24,7 @@ ghost use Rattle.record.specs.Reading.{Read};
 ghost use Rattle.record.specs.Writing.{outOf, wroteOf, wrote};
 ghost use Rattle.rules.specs.Sound.{sound};
 ghost use Rattle.outcome.specs.Call.{Call, Reset};
+ghost use Rattle.outcome.specs.Partner.{partnerOf};
 ghost use Rattle.outcome.specs.Tape.{Tape};
 
 // Making: a fresh table with this begin in the lent words, or refusal 13.
@@ -85,6 +88,16 @@ pub fn list(t: &Table, out: &mut [u8]) -> Answer
         return Answer::Refused(Refusal::NotSound, Side::Neither);
     }
     request_listing::list(t, out, 0)
+}
+
+// Whom a defect is paired with, as the listing has it; no list is written.
+pub fn partner(t: &Table, defect: Node) -> Partner
+    ensures { λ r. ⌜ r ≡ partnerOf (tableOf (now (t .entry))) (defect .0) ⌝ }
+{
+    if !sound::is_sound(t) {
+        return Partner::Refused(Refusal::NotSound);
+    }
+    partner::partner(t, defect)
 }
 
 // The request that stands first on a tape and the bytes that its record fills, or refusal 12.

@@ -1,6 +1,7 @@
 // The public calls for C and Rust, as `include/boltclover.h` declares them. Each passes its arguments to the call of the same
 // name in `primal` and tells the answer in numbers. A slice is a pointer and a length.
 use outcome::numbered;
+use slot::Node;
 use table::Table;
 ghost use mathlib.Core.Path.{_≡_};
 ghost use mathlib.Core.List.{[], _∷_};
@@ -8,6 +9,8 @@ ghost use Rattle.table.specs.Words.{tableOf};
 ghost use Rattle.record.specs.Records.{conflictFrom, virtualFrom, expansionFrom};
 ghost use Rattle.record.specs.declared.request.Request.the-variants as Q;
 ghost use Rattle.rules.specs.Sound.{sound};
+ghost use Rattle.outcome.specs.Partner.{partnerOf};
+ghost use Rattle.outcome.specs.PartnerInNumbers.{ToldPartner};
 ghost use Rattle.outcome.specs.Numbered.{Called, CalledWithSide, WasReset, WasMade, oneIf, Run};
 
 #[no_mangle]
@@ -93,6 +96,22 @@ pub extern "C" fn boltclover_list(table: &Table, out: &mut [u8], written: &mut u
 {
     let answer = primal::list(table, out);
     numbered::tell(answer, written)
+}
+
+// Kind 0 is nobody, 1 a defect, 2 a virtual vertex, which stands in `peer_through`; what does not apply is none.
+#[no_mangle]
+pub extern "C" fn boltclover_partner(
+    table: &Table,
+    defect: u16,
+    kind: &mut u16,
+    partner: &mut u16,
+    through: &mut u32,
+    peer_through: &mut u32,
+) -> u16
+    ensures { λ r. ⌜ ToldPartner (partnerOf (tableOf (now (table .entry))) defect) r (now (kind .exit)) (now (partner .exit)) (now (through .exit)) (now («peer_through» .exit)) ⌝ }
+{
+    let answer = primal::partner(table, Node(defect));
+    outcome::partner::tell(answer, kind, partner, through, peer_through)
 }
 
 #[no_mangle]

@@ -3,24 +3,19 @@ use mathlib.Core.Path.{_≡_}
 use mathlib.Core.Bool.{true, false}
 use Prim.Native.Nat.{ℕ, _+_, _≤_}
 use native.Mathlib.Numerals.{add-one}
-use borrow.Author.Tests.{leb-true, leb-false, lt-ltb, le-ltb}
 use Rattle.table.specs.Table.{Table}
-use Rattle.table.specs.Nodes.{isBlossom, present}
+use Rattle.table.specs.Nodes.{isPresentDefect}
 use Rattle.rules.specs.Refusals.{defectAt, defectsBelow}
 use Rattle.rules.proofs.DefectCounts.{defect-most}
 
 module _ (t : Table) (n : ℕ) where
-  pub blossom-is-none : isBlossom t n ≡ true → 0 ≡ defectAt t n
+  pub defect-is-one : isPresentDefect t n ≡ true → 1 ≡ defectAt t n
   unfolding defectAt
-  blossom-is-none b = rw (le-ltb n (t .begin) (leb-true (t .begin) n b))
+  defect-is-one d = rw d
 
-  pub present-is-one : isBlossom t n ≡ false → present t n ≡ true → 1 ≡ defectAt t n
+  pub other-is-none : isPresentDefect t n ≡ false → 0 ≡ defectAt t n
   unfolding defectAt
-  present-is-one b p = rw (lt-ltb n (t .begin) (leb-false (t .begin) n b), p)
-
-  pub absent-is-none : isBlossom t n ≡ false → present t n ≡ false → 0 ≡ defectAt t n
-  unfolding defectAt
-  absent-is-none b p = rw (lt-ltb n (t .begin) (leb-false (t .begin) n b), p)
+  other-is-none d = rw d
 
   pub one-more :
       (m found : ℕ)

@@ -62,10 +62,7 @@ fn defects_below(t: &Table, to: u16) -> usize
 fn defect_at(t: &Table, n: Node) -> usize
     ensures { λ r. ⌜ r ≡ defectAt (tableOf (now (t .entry))) (n .0) ⌝ }
 {
-    if field::is_blossom(t, n) {
-        return 0;
-    }
-    if field::has_node(t, n) {
+    if field::is_present_defect(t, n) {
         return 1;
     }
     0

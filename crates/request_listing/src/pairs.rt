@@ -14,7 +14,7 @@ ghost use Rattle.rules.specs.Listing.{pairEntry, pairListed, levelsListed, ring
 ghost use Rattle.request_listing.specs.Inside.{insideListed};
 
 // An entry's record: the touched defects, with their through numbers.
-fn pair_entry(link: Link) -> Pair
+pub fn pair_entry(link: Link) -> Pair
     ensures { λ r. ⌜ R.Pair r ≡ pairEntry (linkOf link) ⌝ }
 {
     let node = link.touch;

@@ -15,7 +15,7 @@ ghost use Rattle.record.specs.Writing.{outOf, writeAll};
 ghost use Rattle.rules.specs.Listing.{virtualEntry, matchedListed, slotListed};
 
 // The record of a node matched to a virtual vertex.
-fn virtual_entry(link: Link) -> VirtualPair
+pub fn virtual_entry(link: Link) -> VirtualPair
     ensures { λ r. ⌜ R.VirtualPair r ≡ virtualEntry (linkOf link) ⌝ }
 {
     let node = link.touch;

@@ -8,6 +8,7 @@ pub mod Blossom
 pub mod Expansion
 pub mod Conflict
 pub mod Listing
+pub mod Partner
 pub mod Refusals
 pub mod Calls
 pub mod Concerns

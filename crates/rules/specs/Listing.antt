@@ -6,6 +6,8 @@ use Rattle.slot.specs.declared.number.Vertex.{Vertex}
 use Rattle.slot.specs.Slot.{Link, Slot}
 use Rattle.table.specs.Table.{Table, at}
 use Rattle.table.specs.Nodes.{isBlossom, outer}
+use Rattle.record.specs.declared.answer.Pair.{Pair}
+use Rattle.record.specs.declared.answer.VirtualPair.{VirtualPair}
 use Rattle.record.specs.declared.answer.Record.{Record}
 use Rattle.record.specs.declared.answer.Record.the-variants as R
 use Rattle.rules.specs.Act.{choose, nodeOf}
@@ -18,13 +20,17 @@ abbrev pub vertexOf : ℕ → Vertex
 vertexOf v = record { 0 = v }
 
 -- "Entries name touched defects, with through numbers."
+abbrev pub pairOf : Link → Pair
+pairOf l = record { node = nodeOf (l .touch); peer = nodeOf (l .peerTouch); through = vertexOf (l .through); «peer_through» = vertexOf (l .peerThrough) }
+
+abbrev pub virtualPairOf : Link → VirtualPair
+virtualPairOf l = record { node = nodeOf (l .touch); through = vertexOf (l .through); «virtual_vertex» = vertexOf (l .peerThrough) }
+
 abbrev pub pairEntry : Link → Record
-pairEntry l =
-    R.Pair
-    (record { node = nodeOf (l .touch); peer = nodeOf (l .peerTouch); through = vertexOf (l .through); «peer_through» = vertexOf (l .peerThrough) })
+pairEntry l = R.Pair (pairOf l)
 
 abbrev pub virtualEntry : Link → Record
-virtualEntry l = R.VirtualPair (record { node = nodeOf (l .touch); through = vertexOf (l .through); «virtual_vertex» = vertexOf (l .peerThrough) })
+virtualEntry l = R.VirtualPair (virtualPairOf l)
 
 abbrev pub nothing : Table → List Record
 nothing t = []

@@ -7,7 +7,7 @@ use Rattle.lists.specs.Choice.{pick}
 use Rattle.slot.specs.Number.{noVertex}
 use Rattle.slot.specs.State.{isOuter, isPresent}
 use Rattle.table.specs.Table.{Table, at}
-use Rattle.table.specs.Nodes.{isBlossom, isDefect, present}
+use Rattle.table.specs.Nodes.{isBlossom, isPresentDefect}
 use Rattle.refusal.specs.declared.Refusal.{Refusal}
 use Rattle.refusal.specs.declared.Refusal.the-variants.{NotSound, NoSuchNode, NotOuter, SameNode, TouchOutside, NotGrowing, NoBlossomSlot, NoCommandRoom, NoListingRoom, NotExpandable}
 use Rattle.refusal.specs.declared.Side.{Side}
@@ -83,7 +83,7 @@ makesBlossom t x y = inTree (seen t x) && inTree (seen t y) && sameTree t x y
 
 -- 1 for a present defect
 unfoldable pub defectAt : Table → ℕ → ℕ
-defectAt t n = pick (isDefect t n && present t n) 1 0
+defectAt t n = pick (isPresentDefect t n) 1 0
 
 -- the present defects below n
 unfoldable pub defectsBelow : ℕ → Table → ℕ
@@ -161,3 +161,10 @@ resetChecks t = NotSound when not (sound t) ∷ []
 -- "Listing: 1, 10."
 abbrev pub listChecks : Table → ℕ → List Check
 listChecks t room = NotSound when not (sound t) ∷ NoListingRoom when lacksListingRoom t room ∷ []
+
+-- "Refusals: 1, then 3 for a number that is no present defect" (ticket 3 of 02)
+abbrev pub defectChecks : Table → ℕ → List Check
+defectChecks t d = NoSuchNode when not (isPresentDefect t d) ∷ []
+
+abbrev pub partnerChecks : Table → ℕ → List Check
+partnerChecks t d = NotSound when not (sound t) ∷ defectChecks t d

@@ -4,7 +4,7 @@ use mathlib.Core.Bool.{Bool, true, false, _&&_, not}
 use mathlib.Core.List.{List}
 use Prim.Native.Nat.{ℕ, _≤_, _<_}
 use lib.Dec.{eqb, ltb}
-use lib.ListN.{length, getD, List·getD-eq-default}
+use lib.ListN.{getD}
 use borrow.Author.Tests.{eq-eqb, ne-eqb, lt-ltb, le-ltb, le-leb, lt-leb}
 use Rattle.slot.specs.declared.state.State.{State}
 use Rattle.slot.specs.Slot.{Link, Slot, noLink, mirror}
@@ -20,10 +20,6 @@ stops a b h = rw h
 
 pub goes : (a b r : Bool) → a ≡ true → r ≡ b → r ≡ (a && b)
 goes a b r h e = e ∙ rw h
-
--- past the lent memory nothing is numbered
-pub number-past : (l : List ℕ) (n : ℕ) → length l ≤ n → 0 ≡ getD l n 0
-number-past l n h = sym (List·getD-eq-default l 0 h)
 
 pub same-link-step :
     (l m : Link) (here there r : Bool)

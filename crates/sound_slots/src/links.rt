@@ -1,12 +1,12 @@
 // Tests of a slot's link and pointers: touches inside the two ends, by the numbers of insides (S8), a matched peer that points back with the mirrored link
 // (S3), a first blossom child of blossoms alone (S1).
 
-use crate::numbers::number_of;
 use crate::truth::both;
 use slot::Link;
 use slot::Node;
 use slot::Slot;
 use table::Table;
+use table::numbers::number_of;
 ghost use mathlib.Core.Path.{_≡_};
 ghost use Rattle.slot.specs.Slot.{linkOf, slotOf};
 ghost use Rattle.table.specs.Words.{tableOf};

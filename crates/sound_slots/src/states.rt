@@ -4,12 +4,12 @@
 use crate::links::pair_holds;
 use crate::links::touch_holds;
 use crate::links::touches_hold;
-use crate::numbers::number_of;
 use crate::truth::both;
 use crate::value;
 use slot::Node;
 use slot::Slot;
 use table::Table;
+use table::numbers::number_of;
 ghost use mathlib.Core.Path.{_≡_};
 ghost use Rattle.slot.specs.Slot.{slotOf};
 ghost use Rattle.table.specs.Words.{tableOf};

@@ -1,8 +1,8 @@
 // Ways up (S7). A node's depth is the number of steps from it along parents to none, and 0 stands for one not known yet.
 use slot::Node;
-use sound_slots::numbers::number_of;
-use sound_slots::numbers::set_number;
 use table::Table;
+use table::numbers::number_of;
+use table::numbers::set_number;
 ghost use mathlib.Core.Path.{_≡_};
 ghost use Rattle.table.specs.Words.{tableOf};
 ghost use Rattle.sound_walks.specs.Marks.{judgedOf};

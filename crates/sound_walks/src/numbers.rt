@@ -4,10 +4,10 @@
 // Each function gives the next number, and 0 where a ring is none. No node is entered twice, so the work is linear for any words; what
 // no outer blossom holds, as blossoms whose parents form a circle, gets no number.
 use slot::Node;
-use sound_slots::numbers::number_of;
-use sound_slots::numbers::set_number;
 use sound_slots::truth::both;
 use table::Table;
+use table::numbers::number_of;
+use table::numbers::set_number;
 ghost use mathlib.Core.Path.{_≡_};
 ghost use Prim.Native.Nat.{_-_};
 ghost use Rattle.lists.specs.Choice.{pick};

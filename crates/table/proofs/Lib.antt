@@ -7,4 +7,5 @@ pub mod BlossomEnd
 pub mod ByState
 pub mod Climbs
 pub mod NodesExamples
+pub mod PresentDefects
 pub mod PlaceSteps

@@ -7,7 +7,7 @@ ghost use mathlib.Core.Path.{_≡_};
 ghost use Rattle.slot.specs.Slot.{linkOf};
 ghost use Rattle.table.specs.Table.{at};
 ghost use Rattle.table.specs.Words.{tableOf};
-ghost use Rattle.table.specs.Nodes.{isBlossom, present, outer, inner};
+ghost use Rattle.table.specs.Nodes.{isBlossom, present, isPresentDefect, outer, inner};
 
 pub fn state(t: &Table, n: Node) -> State
     ensures { λ r. ⌜ r ≡ at (tableOf (now (t .entry))) (n .0) .state ⌝ }
@@ -63,6 +63,15 @@ pub fn has_node(t: &Table, n: Node) -> bool
         State::Shrink => true,
         State::Damaged => true,
     }
+}
+
+pub fn is_present_defect(t: &Table, n: Node) -> bool
+    ensures { λ r. ⌜ r ≡ isPresentDefect (tableOf (now (t .entry))) (n .0) ⌝ }
+{
+    if is_blossom(t, n) {
+        return false;
+    }
+    has_node(t, n)
 }
 
 pub fn is_outer(t: &Table, n: Node) -> bool

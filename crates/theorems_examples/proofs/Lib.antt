@@ -6,5 +6,6 @@ pub mod SoundExamples
 pub mod RunExamples
 pub mod TurnExamples
 pub mod NamedExamples
+pub mod PartnerExamples
 pub mod OrderExamples
 pub mod MostCommands

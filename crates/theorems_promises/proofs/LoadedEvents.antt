@@ -10,6 +10,7 @@ use Rattle.lists.specs.Choice.{pick}
 use Rattle.table.specs.Table.{Table, Full}
 use Rattle.table.specs.Words.{tableOf}
 use Rattle.table.specs.Making.{fresh}
+use Rattle.table.specs.Nodes.{isPresentDefect}
 use Rattle.record.specs.declared.request.Request.{Request}
 use Rattle.record.specs.declared.request.Request.the-variants as Q
 use Rattle.rules.specs.Act.{World, worldOf}
@@ -19,7 +20,7 @@ use Rattle.rules.specs.Calls.{answered}
 use Rattle.rules.specs.Run.{Progress, room, served, runFrom, Between, requestsOf}
 use Rattle.rules.proofs.RunCounts.{records-between}
 use Rattle.rules.proofs.TapeRequests.{as-many}
-use Rattle.theorems_requests.specs.Named.{namedIn, times, isPresentDefect, AllMatched}
+use Rattle.theorems_requests.specs.Named.{namedIn, times, AllMatched}
 use Rattle.outcome.specs.Tape.{Tape}
 use Rattle.theorems_soundness.proofs.Wholes.{to-whole}
 use Rattle.theorems_promises.specs.Loaded.{Events, noEvents, loadedAfter, servedAll, loadedBy}

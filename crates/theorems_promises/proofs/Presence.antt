@@ -7,7 +7,7 @@ use native.Mathlib.Omega.{arith}
 use lib.Dec.{T, ltb}
 use Rattle.table.specs.Table.{Table}
 use Rattle.table.specs.Making.{fresh}
-use Rattle.table.specs.Nodes.{isDefect, present}
+use Rattle.table.specs.Nodes.{isDefect, present, isPresentDefect}
 use Rattle.refusal.specs.declared.Side.{Side}
 use Rattle.refusal.specs.declared.Refusal.{Refusal}
 use Rattle.refusal.specs.declared.Verdict.{Verdict}
@@ -25,7 +25,6 @@ use Rattle.rules.specs.Conflict.{conflict, virtualConflict}
 use Rattle.rules.specs.Expansion.{expansion}
 use Rattle.rules.specs.Calls.{list, verdict, answered}
 use Rattle.rules.specs.Run.{room, served}
-use Rattle.theorems_requests.specs.Named.{isPresentDefect}
 use Rattle.theorems_soundness.specs.Chain.{_∈_}
 use Rattle.theorems_soundness.proofs.Reflect.{test-true, ltb↔, isIn↔}
 use Rattle.theorems_soundness.specs.RuleFacts.{Whole}

@@ -2,12 +2,12 @@
 use mathlib.Core.Path.{_≡_, refl, ap, sym, _∙_}
 use mathlib.Core.List.{List, [], _∷_}
 use Prim.Native.Nat.{ℕ, _-_}
+use Rattle.table.specs.Nodes.{isPresentDefect}
 use Rattle.record.specs.declared.request.Request.{Request}
 use Rattle.rules.specs.Act.{World}
 use Rattle.rules.specs.Run.{Progress, room, served, runFrom, requestsOf}
 use Rattle.rules.proofs.RunInduction.{OfRuns, AtAStop, run-induction}
 use Rattle.rules.proofs.TapeRequests.{first-request}
-use Rattle.theorems_requests.specs.Named.{isPresentDefect}
 use Rattle.theorems_soundness.specs.RuleFacts.{Whole}
 use Rattle.theorems_soundness.proofs.Serving.{served-whole}
 use Rattle.theorems_promises.specs.Loaded.{Events, loadedAfter, servedAll, loadedBy}

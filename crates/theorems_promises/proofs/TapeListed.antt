@@ -11,12 +11,13 @@ use Rattle.table.specs.Table.{Table}
 use Rattle.table.specs.Words.{tableOf}
 use Rattle.table.proofs.WordsOfSlots.{slots-length}
 use Rattle.table.specs.Making.{fresh}
+use Rattle.table.specs.Nodes.{isPresentDefect}
 use Rattle.rules.specs.Act.{World, worldOf}
 use Rattle.rules.specs.Sound.{sound}
 use Rattle.rules.specs.Listing.{listing}
 use Rattle.rules.specs.Run.{ran, Ended, began, runFrom, Between, requestsOf}
 use Rattle.rules.proofs.RunCounts.{run-counts}
-use Rattle.theorems_requests.specs.Named.{namedIn, times, isPresentDefect, AllMatched}
+use Rattle.theorems_requests.specs.Named.{namedIn, times, AllMatched}
 use Rattle.theorems_requests.proofs.EachEventOnce.{every-event-once}
 use Rattle.outcome.specs.Tape.{HandsOut, Tape}
 use Rattle.outcome.proofs.RunOutcomes.{sound-outcome}

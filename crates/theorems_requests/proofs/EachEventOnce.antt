@@ -10,7 +10,7 @@ use lib.ListN.{length, take, drop}
 use Rattle.lists.specs.Choice.{pick}
 use Rattle.slot.specs.declared.state.State.the-variants as S
 use Rattle.table.specs.Table.{Table, at, Full}
-use Rattle.table.specs.Nodes.{isBlossom, outer}
+use Rattle.table.specs.Nodes.{isBlossom, isPresentDefect, outer}
 use Rattle.table.specs.declared.place.Place.the-variants.{Paired, Virtual}
 use Rattle.table.specs.Place.{place}
 use Rattle.record.specs.Writing.{outOf, writeAll, bytesOf}
@@ -18,7 +18,7 @@ use Rattle.rules.specs.Act.{nodeOf}
 use Rattle.rules.specs.Sound.{sound}
 use Rattle.rules.specs.Listing.{pairListed, levelsListed, listing}
 use Rattle.rules.specs.Refusals.{presentDefects}
-use Rattle.theorems_requests.specs.Named.{namedIn, times, isPresentDefect, isListed, AllMatched, Entry, Each}
+use Rattle.theorems_requests.specs.Named.{namedIn, times, isListed, AllMatched, Entry, Each}
 use Rattle.theorems_soundness.proofs.SoundFacts.{sound→facts}
 use Rattle.theorems_requests.proofs.ListedOnce.{listing-count, matched-count, listing-entries}
 use Rattle.theorems_requests.proofs.MatchedPlaces.{stay↔matched}

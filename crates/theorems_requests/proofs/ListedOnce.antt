@@ -11,14 +11,14 @@ use Rattle.lists.specs.Choice.{pick}
 use Rattle.slot.specs.declared.state.State.the-variants as S
 use Rattle.slot.specs.Number.{none}
 use Rattle.table.specs.Table.{Table, at, Full}
-use Rattle.table.specs.Nodes.{isDefect, present, outer}
+use Rattle.table.specs.Nodes.{isDefect, present, isPresentDefect, outer}
 use Rattle.table.specs.Climb.{outerBlossom}
 use Rattle.rules.specs.Slots.{isStay, next}
 use Rattle.rules.specs.Listing.{virtualEntry, pairListed, slotListed, slotsListed, listing}
 use Rattle.theorems_soundness.specs.FactsOfNodes.{Virtual, Paired}
 use Rattle.theorems_soundness.specs.FactsOfBlossoms.{Inside}
 use Rattle.theorems_soundness.specs.Facts.{Sound}
-use Rattle.theorems_requests.specs.Named.{namedIn, times, isPresentDefect, isListed, AllMatched, Entry, Each}
+use Rattle.theorems_requests.specs.Named.{namedIn, times, isListed, AllMatched, Entry, Each}
 use Rattle.theorems_soundness.proofs.Reflect.{and→, →and, pick-yes, pick-no, test-case}
 use Rattle.theorems_soundness.proofs.ReflectSlots.{stay↔}
 use Rattle.theorems_soundness.proofs.Past.{outer-below, present-some}

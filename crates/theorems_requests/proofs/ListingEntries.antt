@@ -5,14 +5,14 @@ use mathlib.Core.List.{List, [], _∷_, _++_}
 use Prim.Native.Nat.{ℕ, suc, _+_, _≤_, _<_}
 use lib.Dec.{T, lt→ltb}
 use Rattle.table.specs.Table.{Table, at, Full}
-use Rattle.table.specs.Nodes.{isDefect, present, inner}
+use Rattle.table.specs.Nodes.{isDefect, present, isPresentDefect, inner}
 use Rattle.record.specs.declared.answer.Record.{Record}
 use Rattle.rules.specs.Slots.{up, next}
 use Rattle.rules.specs.Listing.{pairEntry, virtualEntry, pairListed, levelsListed, ringListed}
 use Rattle.theorems_soundness.specs.Chain.{_∈_}
 use Rattle.theorems_soundness.specs.FactsOfBlossoms.{DefectInside}
 use Rattle.theorems_soundness.specs.Facts.{Rest}
-use Rattle.theorems_requests.specs.Named.{namedBy, namedIn, isPresentDefect, Entry, Each}
+use Rattle.theorems_requests.specs.Named.{namedBy, namedIn, Entry, Each}
 use Rattle.theorems_soundness.proofs.Reflect.{→and}
 use Rattle.theorems_soundness.proofs.Members.{in-append→}
 use Rattle.theorems_soundness.proofs.InsideLaws.{inside-present}

@@ -9,7 +9,7 @@ use lib.ListN.{length, take, drop, length-append}
 use Rattle.lists.specs.Choice.{pick}
 use Rattle.slot.specs.Slot.{Link}
 use Rattle.table.specs.Table.{Table, at, Full}
-use Rattle.table.specs.Nodes.{isDefect, present}
+use Rattle.table.specs.Nodes.{isDefect, present, isPresentDefect}
 use Rattle.table.specs.Climb.{outerBlossom}
 use Rattle.record.specs.declared.answer.Record.{Record}
 use Rattle.record.specs.Records.{answerBytes}
@@ -20,7 +20,7 @@ use Rattle.rules.specs.Listing.{pairEntry, virtualEntry, listing}
 use Rattle.rules.specs.Refusals.{defectAt, defectsBelow, presentDefects}
 use Rattle.theorems_soundness.specs.Chain.{_∈_}
 use Rattle.theorems_soundness.specs.Facts.{Sound}
-use Rattle.theorems_requests.specs.Named.{namedBy, namedIn, times, isPresentDefect, Entry, Each}
+use Rattle.theorems_requests.specs.Named.{namedBy, namedIn, times, Entry, Each}
 use Rattle.theorems_soundness.proofs.Reflect.{and→}
 use Rattle.theorems_soundness.proofs.Past.{present-below}
 use Rattle.theorems_requests.proofs.CountLaws.{sumBelow, sum-most, length-counted}

@@ -8,7 +8,7 @@ use lib.Dec.{T, eqb}
 use Rattle.lists.specs.Choice.{pick}
 use Rattle.slot.specs.declared.state.State.the-variants as S
 use Rattle.table.specs.Table.{Table, at}
-use Rattle.table.specs.Nodes.{isDefect, present, outer}
+use Rattle.table.specs.Nodes.{isPresentDefect, present, outer}
 use Rattle.table.specs.Climb.{outerBlossom}
 use Rattle.record.specs.declared.answer.Record.{Record}
 use Rattle.record.specs.declared.answer.Record.the-variants as R
@@ -41,10 +41,6 @@ times a [] = 0
 times a (x ∷ xs) = one a x + times a xs
 
 -- ---- what the listing is to name
-
--- a defect: "Slots below `blossom_begin` are defects", and its slot is not empty
-abbrev pub isPresentDefect : Table → ℕ → Bool
-isPresentDefect t n = isDefect t n && present t n
 
 -- "Over outer slots ascending, matched ones only": a present defect is listed where the outer node around it is matched, which
 -- S3 and S4 say of Stay alone

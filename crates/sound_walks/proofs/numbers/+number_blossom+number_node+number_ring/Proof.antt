@@ -17,7 +17,7 @@ use Rattle.sound_walks.proofs.numbers.+number_blossom+number_node+numbe
 use Rattle.sound_walks.proofs.numbers.number_ring.Reads as number-ring
 use Rattle.sound_walks.proofs.numbers.number_ring.Kinds as number-ring-kinds
 use Rattle.sound_walks.proofs.numbers.+number_blossom+number_node+number_ring.Lts-number_ring as number-ring-lts
-use Rattle.sound_slots.proofs.numbers.set_number.Reads as set-number-reads
+use Rattle.table.proofs.numbers.set_number.Reads as set-number-reads
 use Rattle.sound_walks.proofs.numbers.closed.Reads as closed-reads
 use Rattle.sound_walks.proofs.numbers.is_next.Reads as is-next-reads
 use Rattle.std.proofs.num.wrapping_add_u16.Reads as wrapping-add-u16-reads

@@ -1,8 +1,8 @@
 use lib.Seq.{set-out}
 use mathlib.Core.Path.{sym}
 use borrow.Author.Needs.{needs}
-use Rattle.sound_slots.proofs.numbers.set_number.Statement.{statement}
-use Rattle.sound_slots.proofs.numbers.set_number.Tie as tie
+use Rattle.table.proofs.numbers.set_number.Statement.{statement}
+use Rattle.table.proofs.numbers.set_number.Tie as tie
 
 pub set-number-spec : {M : Type 1} → statement M
 set-number-spec =

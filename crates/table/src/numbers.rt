@@ -1,4 +1,4 @@
-// A number for each slot, in lent memory. Past its end there is nothing to read and nothing to change.
+// A number for each slot, in memory lent beside the table. Past its end there is nothing to read and nothing to change.
 use slot::Node;
 ghost use mathlib.Core.Path.{_≡_};
 ghost use lib.ListN.{set, getD};
