@@ -27,16 +27,36 @@ pub fn end(ending: Ending) {
     ;
 }
 
+// An argument as a number up to some limit.
+fn number_argument(i: usize, most: u32) -> Number {
+    let mut word = io::buffer();
+    let n = os::arg(i, &mut word);
+    text_decimals::read_decimal(&word[..n], most)
+}
+
 // begin: the first argument, the usual one where there is none, 0 where it is no number up to 256.
 pub fn begin(usual: u16) -> u16 {
     if os::arg_count() < 2 {
         return usual;
     }
-    let mut word = io::buffer();
-    let n = os::arg(1, &mut word);
-    match text_decimals::read_decimal(&word[..n], 256) {
+    match number_argument(1, 256) {
         Number::Is(number) => small(number),
         Number::Unreadable => 0,
+    }
+}
+
+// The arguments behind the second are defects that are asked about: the place of the first, the place after the last, and the number at
+// a place; 65,535, which is no defect, where it is no number.
+pub const FIRST_ASKED: usize = 3;
+
+pub fn asked_end() -> usize {
+    os::arg_count()
+}
+
+pub fn asked(i: usize) -> u16 {
+    match number_argument(i, 65535) {
+        Number::Is(number) => small(number),
+        Number::Unreadable => 65535,
     }
 }
 

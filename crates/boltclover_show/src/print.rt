@@ -6,7 +6,7 @@ use refusal::Answer;
 use table::Table;
 
 // The records in the first n bytes, in words, at a position of the lines.
-fn write_lines(lines: &mut [u8], pos: usize, records: &[u8], n: usize) -> usize {
+pub fn write_lines(lines: &mut [u8], pos: usize, records: &[u8], n: usize) -> usize {
     if records.len() < n {
         return pos;
     }
@@ -51,7 +51,7 @@ fn write_answers(
 }
 
 // The request that stands first on the tape, in so many bytes, and what it answers.
-pub fn record(t: &mut Table, tape: &[u8], size: usize, request: Request) -> bool {
+pub fn record(t: &mut Table, tape: &[u8], size: usize, request: Request, aloud: bool) -> bool {
     let mut space = [0u8; 8192];
     let out: &mut [u8] = &mut space;
     let mut line_space = [0u8; 16384];
@@ -70,17 +70,22 @@ pub fn record(t: &mut Table, tape: &[u8], size: usize, request: Request) -> bool
         &mut handled,
         &mut written,
     );
+    if !aloud {
+        return true;
+    }
     let p = write_lines(lines, 0, tape, size);
     let n = write_answers(lines, p, t, request, out, written);
     boltclover_shared::write_first(lines, n)
 }
 
 // The bad record that stands first on the rest of a tape, at such a byte of it.
-pub fn bad_record(at: u64, rest: &[u8]) {
+pub fn bad_record(at: u64, rest: &[u8], aloud: bool) {
     let mut space = io::buffer();
     let line: &mut [u8] = &mut space;
-    let n = text::write_bad_record(line, 0, b"  refused 12", at, rest);
-    boltclover_shared::write_first(line, n);
+    if aloud {
+        let n = text::write_bad_record(line, 0, b"  refused 12", at, rest);
+        boltclover_shared::write_first(line, n);
+    }
     let m = text::write_bad_record(line, 0, b"bad record", at, rest);
     boltclover_shared::complain_first(line, m);
 }

@@ -1,4 +1,4 @@
-// A tape of any length, read and served in turns of 65,536 bytes.
+// A tape of any length, read and served in turns of 65,536 bytes: aloud, with each record printed, or in silence.
 use crate::print;
 use boltclover_shared::Ending;
 use record::Reading;
@@ -21,7 +21,7 @@ struct Turn {
 }
 
 // The records in the bytes of a turn. While the tape goes on, a record that could stand beyond its end is left for the next turn.
-fn show_records(t: &mut Table, tape: &[u8], start: u64, is_last: bool) -> Turn {
+fn show_records(t: &mut Table, tape: &[u8], start: u64, is_last: bool, aloud: bool) -> Turn {
     let mut rest = tape;
     let mut used: usize = 0;
     while 0 < rest.len() {
@@ -35,7 +35,7 @@ fn show_records(t: &mut Table, tape: &[u8], start: u64, is_last: bool) -> Turn {
         }
         match primal::read_record(rest) {
             Reading::Request(request, size) => {
-                if !print::record(t, rest, size, request) {
+                if !print::record(t, rest, size, request, aloud) {
                     return Turn {
                         ended: WRONG,
                         used: used,
@@ -45,7 +45,7 @@ fn show_records(t: &mut Table, tape: &[u8], start: u64, is_last: bool) -> Turn {
                 used = tape.len() - rest.len();
             }
             Reading::Refused(_) => {
-                print::bad_record(place(start, used), rest);
+                print::bad_record(place(start, used), rest, aloud);
                 return Turn {
                     ended: WRONG,
                     used: used,
@@ -71,18 +71,18 @@ fn place(start: u64, used: usize) -> u64 {
     std::num::wrapping_add_u64(start, used as u64)
 }
 
-fn show_turn(t: &mut Table, tape: &[u8], n: usize, start: u64) -> Turn {
+fn show_turn(t: &mut Table, tape: &[u8], n: usize, start: u64, aloud: bool) -> Turn {
     if tape.len() < n {
         return Turn {
             ended: WRONG,
             used: 0,
         };
     }
-    show_records(t, &tape[0..n], start, n < tape.len())
+    show_records(t, &tape[0..n], start, n < tape.len(), aloud)
 }
 
 // A proved loop has to end, and nothing says that a tape does: the turns are counted down from a number that no tape uses up.
-pub fn show_tape(t: &mut Table) -> Ending {
+pub fn show_tape(t: &mut Table, aloud: bool) -> Ending {
     let mut space = io::large_buffer();
     let tape: &mut [u8] = &mut space;
     let mut have: usize = 0;
@@ -90,7 +90,7 @@ pub fn show_tape(t: &mut Table) -> Ending {
     let mut turns = u64::MAX;
     while 0 < turns {
         let n = boltclover_shared::read_behind(tape, have);
-        let turn = show_turn(t, tape, n, start);
+        let turn = show_turn(t, tape, n, start, aloud);
         if turn.ended == AT_END {
             return Ending::Well;
         }

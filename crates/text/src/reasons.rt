@@ -44,8 +44,14 @@ pub const EXPAND_STAYS: usize = 17;
 
 pub const EXPAND_GROWS: usize = 18;
 
+pub const ASKED_PAST_THE_TABLE: usize = 19;
+
+pub const ASKED_EMPTY: usize = 20;
+
+pub const ASKED_BLOSSOM: usize = 21;
+
 // Marks as in a record's form, on the numbers put side by side.
-const REASONS: [u8; 880] = *b"|  refused 3 at side #n3: node #n0 is past the last slot, 255
+const REASONS: [u8; 1026] = *b"|  refused 3 at side #n3: node #n0 is past the last slot, 255
 |  refused 3 at side #n3: blossom slot #n0 is empty
 |  refused 3 at side #n3: the vertex at node #n0 is none
 |  refused 3 at side #n3: the virtual vertex is none
@@ -63,6 +69,9 @@ const REASONS: [u8; 880] = *b"|  refused 3 at side #n3: node #n0 is past the las
 |  refused 11: blossom #n0 is inside blossom #n1
 |  refused 11: blossom #n0 stays
 |  refused 11: blossom #n0 grows
+|  refused 3: node #n0 is past the last slot, 255
+|  refused 3: defect slot #n0 is empty
+|  refused 3: node #n0 is no defect: those are below #n1
 ";
 
 // Why a record is bad.

@@ -9,10 +9,10 @@ use Rattle.boltclover_show.proofs.turns.show_records.Statement.{stateme
 use Rattle.boltclover_show.proofs.turns.show_records.Tie as tie
 
 abbrev Inv-loop : tie.InvT-loop
-Inv-loop t₀ tape start is-last rest₀ used₀ t rest used = length rest ≤ length tape
+Inv-loop t₀ tape start is-last aloud rest₀ used₀ t rest used = length rest ≤ length tape
 
 abbrev μ-loop : tie.MeasureT-loop
-μ-loop t₀ tape start is-last rest₀ used₀ t rest used = length rest
+μ-loop t₀ tape start is-last aloud rest₀ used₀ t rest used = length rest
 
 pub show-records-spec : {M : Type 1} → statement M
 show-records-spec =
