@@ -3,6 +3,7 @@
  *   driver run TIMES <TAPE              the tape on a fresh table of begin 128, and the requests and answer bytes of one time
  *   driver sound TABLE TIMES            the soundness check of a table
  *   driver list TABLE TIMES             its listing
+ *   driver partner TABLE DEFECT TIMES   the question for a defect's partner, with the soundness check; `all` asks for each defect once
  *   driver reset TIMES                  emptying a table
  *   driver conflict TABLE WHAT TIMES    a run of one conflict on a table: its soundness check, and the request
  *   driver before TABLE WHAT TIMES      the same run without the request, to be taken off
@@ -17,6 +18,7 @@
  *   nested (N 85)    N blossoms, each in the next, every touch the deepest defect
  *   outside (N 85)   the same, every touch a defect of the outermost ring
  *   settled (N 85)   nested, and the outermost matched to a virtual vertex
+ *   apart (N 85)     outside, and the outermost matched to a virtual vertex: every level is paired by a link of its own
  *
  * WHAT is one of these, each between the last node that the table's name speaks of (a tree's last leaf, the outermost blossom, else
  * a new node) and another:
@@ -69,8 +71,8 @@ static int is(const char *name, const char *known)
 static void build(const char *name)
 {
 	const char *colon = strchr(name, ':');
-	int settled = is(name, "settled"), n, which = 0;
-	while (which < DEEP_TABLES && !is(settled ? "nested" : name, deep_names[which]))
+	int settled = is(name, "settled"), apart = is(name, "apart"), n, which = 0;
+	while (which < DEEP_TABLES && !is(settled ? "nested" : apart ? "outside" : name, deep_names[which]))
 		which++;
 	must(which < DEEP_TABLES, "no such table");
 	n = colon ? atoi(colon + 1) : deep_sizes[which];
@@ -89,7 +91,7 @@ static void build(const char *name)
 		end = end_touch = n;
 		unnamed = n + 1;
 	}
-	if (settled) {
+	if (settled || apart) {
 		boltclover_size written;
 		uint16_t side;
 		must(boltclover_virtual_conflict(table, end, end_touch, 1, 2, out, MOST, &written, &side) == 0, "the virtual conflict is refused");
@@ -191,6 +193,16 @@ static void match(void)
 	must(boltclover_virtual_conflict(table, node, touch, 1, 2, out, MOST, &written, &side) == 0, "the virtual conflict is refused");
 }
 
+static void ask(uint16_t defect)
+{
+	uint16_t kind, partner;
+	uint32_t through, peer_through;
+	must(boltclover_partner(table, defect, &kind, &partner, &through, &peer_through) == 0, "the question for a partner is refused");
+	must(kind != BOLTCLOVER_NOBODY, "a defect has no partner");
+}
+
+static void ask_deepest(void) { ask(0); }
+
 static void nothing(void) {}
 
 static size_t touched(void (*call)(void))
@@ -228,11 +240,13 @@ static void measure(const char *name)
 		printf("virtual conflict at the outermost blossom %zu\n", touched(match) - own);
 	}
 	printf("listing afterwards %zu\n", touched(list) - own);
+	if (is(name, "nested") || is(name, "outside"))
+		printf("question for the deepest defect %zu\n", touched(ask_deepest) - own);
 }
 
 int main(int argc, char **argv)
 {
-	must(argc >= 3, "run TIMES | sound TABLE TIMES | list TABLE TIMES | reset TIMES | conflict TABLE WHAT TIMES | before TABLE WHAT TIMES | stack TABLE");
+	must(argc >= 3, "run TIMES | sound TABLE TIMES | list TABLE TIMES | partner TABLE DEFECT TIMES | reset TIMES | conflict TABLE WHAT TIMES | before TABLE WHAT TIMES | stack TABLE");
 	if (strcmp(argv[1], "run") == 0) {
 		run(fread(tape, 1, MOST, stdin), atoi(argv[2]));
 	} else if (strcmp(argv[1], "reset") == 0) {
@@ -241,6 +255,16 @@ int main(int argc, char **argv)
 			must(boltclover_reset(table) == 0, "reset is refused");
 	} else if (strcmp(argv[1], "stack") == 0) {
 		measure(argv[2]);
+	} else if (strcmp(argv[1], "partner") == 0) {
+		must(argc == 5, "a table, a defect or `all`, and a number");
+		build(argv[2]);
+		for (int i = 0; i < atoi(argv[4]); i++) {
+			if (strcmp(argv[3], "all") != 0)
+				ask(atoi(argv[3]));
+			else
+				for (uint16_t defect = 0; defect < unnamed; defect++)
+					ask(defect);
+		}
 	} else if (strcmp(argv[1], "conflict") == 0 || strcmp(argv[1], "before") == 0) {
 		must(argc == 5, "a table, a kind of conflict and a number");
 		build(argv[2]);

@@ -11,12 +11,13 @@
  *
  * What is lent. Every pointer is lent for the call alone. None may be NULL, also where its length is 0. A table is
  * BOLTCLOVER_TABLE_WORDS words, in any memory of the caller's (static, stack, heap). Each pointer is aligned as the type that it
- * points to: table, side and stop by 2 bytes, handled by 4, written and unread by 8; tape and out need no alignment. The objects of one
- * call must not overlap. Calls on different tables may run at the same time; calls on one table may not.
+ * points to: table, side, stop, kind and partner by 2 bytes, handled, through and peer_through by 4, written and unread by 8; tape and out
+ * need no alignment. The objects of one call must not overlap. Calls on different tables may run at the same time; calls on one table may not.
  *
  * What a call changes. An accepted call changes the table, *written, *side and the first *written bytes of out; later bytes of out
  * stay as they were. A refused call changes nothing but *written, which it sets to 0, and *side: the table and every byte of out stay
- * as they were. *side is set at every return. The old contents of *written, *side, *stop, *handled and *unread are never read.
+ * as they were. *side is set at every return. The question for a partner changes *kind, *partner, *through and *peer_through alone, and
+ * sets all four at every return. The old contents of what the last pointers of a call point to are never read.
  *
  * What is asked of the caller. Of the values nothing: every table, number, tape and length may be passed, and every call ends.
  * A table that was not made, or that something else wrote into, is found out by each call and refused (number 1).
@@ -63,7 +64,7 @@ enum {
     BOLTCLOVER_DONE = 0,
     BOLTCLOVER_NOT_SOUND = 1,         /* the table is not sound */
     BOLTCLOVER_NO_RECORD_ROOM = 2,    /* given by the Rattle call that writes one record; by no call here */
-    BOLTCLOVER_NO_SUCH_NODE = 3,      /* a named node is 256 or more, or an empty blossom slot; or a vertex is none */
+    BOLTCLOVER_NO_SUCH_NODE = 3,      /* a named node is 256 or more, or an empty blossom slot; a vertex is none; or no present defect is asked about */
     BOLTCLOVER_NOT_OUTER = 4,         /* a named node is inside a blossom */
     BOLTCLOVER_SAME_NODE = 5,         /* both nodes are one */
     BOLTCLOVER_TOUCH_OUTSIDE = 6,     /* a touch is not a defect inside its node */
@@ -82,6 +83,13 @@ enum {
     BOLTCLOVER_NO_SIDE = 0,
     BOLTCLOVER_SIDE_1 = 1,
     BOLTCLOVER_SIDE_2 = 2
+};
+
+/* What a defect is paired with. */
+enum {
+    BOLTCLOVER_NOBODY = 0,
+    BOLTCLOVER_A_DEFECT = 1,
+    BOLTCLOVER_A_VIRTUAL_VERTEX = 2
 };
 
 /* Why a run stopped. The first that applies, asked before each record. */
@@ -118,6 +126,12 @@ uint16_t boltclover_expand(uint16_t *table, uint16_t node, uint8_t *out, boltclo
 
 /* Lists every matched pair of defects, those inside blossoms too, as pair and virtual pair records. 0, or 1, 10. */
 uint16_t boltclover_list(const uint16_t *table, uint8_t *out, boltclover_size room, boltclover_size *written);
+
+/* Whom a present defect is paired with: what the listing says of it, with no list written. *kind is one of the three above; *partner is
+   the other defect, and *through and *peer_through are the vertices on the defect's own and on the other side, the last of them the
+   virtual vertex where there is one. What does not apply is none: BOLTCLOVER_NO_NODE, BOLTCLOVER_NO_VERTEX; all of it is after a refusal.
+   0, or 1, then 3 for a number that is no present defect: a blossom, an empty slot, 256 or more. */
+uint16_t boltclover_partner(const uint16_t *table, uint16_t defect, uint16_t *kind, uint16_t *partner, uint32_t *through, uint32_t *peer_through);
 
 /* Handles the requests of a tape, at most allowance of them. Each writes its records and an end record with 0 or its refusal and side;
    a refused request does not stop the run. Gives *stop, the requests handled, the bytes written, and the bytes left unread:

@@ -151,8 +151,8 @@ build() {
 
 # The sources that the tools share, and one of their own.
 build_tool() {
-    build "target/tools/$1" "tools/src/$1.c" tools/src/view.c tools/src/judge.c tools/src/shots.c tools/src/nests.c tools/src/original.c tools/src/port.c \
-        tools/src/progress.c || missing "tools/src/$1.c could not be built with $cc; its words stand above"
+    build "target/tools/$1" "tools/src/$1.c" tools/src/view.c tools/src/judge.c tools/src/shots.c tools/src/nests.c tools/src/original.c tools/src/partners.c \
+        tools/src/port.c tools/src/progress.c || missing "tools/src/$1.c could not be built with $cc; its words stand above"
 }
 
 # ---- the original as a program (docs/DIFFERENCES.md)

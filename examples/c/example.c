@@ -1,4 +1,4 @@
-/* A caller of the library: makes a table, brings two events into conflict, lists the pair, is refused, and runs a tape. */
+/* A caller of the library: makes a table, brings two events into conflict, lists the pair, asks for a partner, is refused, and runs a tape. */
 #include <stdio.h>
 #include <string.h>
 
@@ -56,6 +56,13 @@ int main(void) {
     answer = boltclover_list(table, out, sizeof out, &written);
     printf("list: %u, %zu bytes\n", answer, (size_t)written);
     say(out, written);
+
+    uint16_t kind, partner;
+    uint32_t through, peer_through;
+    answer = boltclover_partner(table, 1, &kind, &partner, &through, &peer_through);
+    printf("partner of 1: %u, kind %u: %u, through vertices %lu and %lu\n", answer, kind, partner, (unsigned long)through, (unsigned long)peer_through);
+    answer = boltclover_partner(table, 2, &kind, &partner, &through, &peer_through);
+    printf("partner of 2: %u, kind %u\n", answer, kind);
 
     answer = boltclover_conflict(table, 0, 0, 0, 0, 10, 11, out, sizeof out, &written, &side);
     printf("conflict of 0 with itself: %u, %zu bytes\n", answer, (size_t)written);

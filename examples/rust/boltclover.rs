@@ -91,6 +91,15 @@ pub struct VirtualConflict {
     pub virtual_vertex: Vertex,
 }
 
+/// Whom a defect is paired with, as the defect sees it.
+#[derive(Clone, Copy, PartialEq, Eq, Debug)]
+pub enum Partner {
+    /// No entry of the listing names it.
+    Nobody,
+    Defect { partner: Node, through: Vertex, peer_through: Vertex },
+    Virtual { through: Vertex, virtual_vertex: Vertex },
+}
+
 /// What a run hands out. `rest` is the unread part of the tape.
 #[derive(Clone, Copy, Debug)]
 pub struct Run<'tape> {
@@ -140,6 +149,14 @@ extern "C" {
     ) -> u16;
     fn boltclover_expand(table: *mut u16, node: u16, out: *mut u8, room: Size, written: *mut Size) -> u16;
     fn boltclover_list(table: *const u16, out: *mut u8, room: Size, written: *mut Size) -> u16;
+    fn boltclover_partner(
+        table: *const u16,
+        defect: u16,
+        kind: *mut u16,
+        partner: *mut u16,
+        through: *mut u32,
+        peer_through: *mut u32,
+    ) -> u16;
     fn boltclover_run(
         table: *mut u16,
         tape: *const u8,
@@ -256,6 +273,19 @@ impl Table {
         let mut written = 0;
         let number = unsafe { boltclover_list(self.words.as_ptr(), out.as_mut_ptr(), out.len() as Size, &mut written) };
         told(number, &out[..written as usize])
+    }
+
+    /// Whom a present defect is paired with: what the listing says of it, with no list written.
+    pub fn partner(&self, defect: Node) -> Result<Partner, Refusal> {
+        let (mut kind, mut partner, mut through, mut peer_through) = (0, 0, 0, 0);
+        let number = unsafe { boltclover_partner(self.words.as_ptr(), defect.0, &mut kind, &mut partner, &mut through, &mut peer_through) };
+        let (partner, through, peer_through) = (Node(partner), Vertex(through), Vertex(peer_through));
+        let answer = match kind {
+            0 => Partner::Nobody,
+            1 => Partner::Defect { partner, through, peer_through },
+            _ => Partner::Virtual { through, virtual_vertex: peer_through },
+        };
+        told(number, answer)
     }
 
     /// Handles the requests of a tape, at most `allowance` of them, padded with zeros to a multiple of four bytes or not. The answers are

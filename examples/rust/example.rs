@@ -48,6 +48,8 @@ fn main() {
     say(table.conflict(touch(0, 1), &mut out).unwrap());
     println!("list:");
     say(table.list(&mut out).unwrap());
+    println!("partner of 1: {:?}", table.partner(Node(1)));
+    println!("partner of 2: {:?}", table.partner(Node(2)));
 
     println!("conflict of 0 with itself: {:?}", table.conflict(touch(0, 0), &mut out));
     println!("conflict of 2 with 256: {:?}", table.conflict(touch(2, 256), &mut out));

@@ -7,6 +7,7 @@
      M begin 2                                    make a table
      R room 4, record                             a request, as a tape holds it
      S                                            the soundness check
+     P defect 2                                   the question for a partner
      T length 4, room 4, allowance 4, tape        a run
      A length 4, bytes                            what the run before it should have written
      K, B                                         keep a copy of the table; take it back
@@ -75,6 +76,8 @@ static void request(const Request *r, uint32_t room) {
     call_port(words, r, out, room, &written, &side);
 }
 
+static void put_question(uint32_t defect) { put('P', 1), put(defect, 2); }
+
 static void put_run(const uint8_t *tape, size_t length, uint32_t room, uint32_t allowance) {
     put('T', 1), put(length, 4), put(room, 4), put(allowance, 4), put_bytes(tape, length);
 }
@@ -133,6 +136,8 @@ static void deep(enum deep which, const char *table, uint16_t node, uint16_t tou
     measured(table, " matched"), request(&match, ROOM);
     measured(table, " listed in a run"), put_run(record, write_request(record, &list), ROOM, 1);
     measured(table, " listed"), request(&list, ROOM);
+    measured(table, " asked for its first defect"), put_question(0);
+    measured(table, " asked for the touched defect"), put_question(touch);
 }
 
 /* Begin 1, and each of 255 blossoms the one node of the next one's ring: no table takes the check deeper, which then finds the innermost
@@ -176,6 +181,7 @@ static void damaged(Shot *shot) {
     Request r = chance(&shot->dice, 1, 2) ? wild_request(shot, &t) : next_request(shot, &t);
     if (chance(&shot->dice, 1, 10)) r.kind = chance(&shot->dice, 1, 2) ? LIST : RESET;
     put('S', 1);
+    put_question(r.node_1);
     put_request(&r, chance(&shot->dice, 1, 8) ? roll(&shot->dice, 4096) : ROOM);
     static const uint8_t tape[] = {2, 0, 5, 0};
     put_run(tape, sizeof tape, ROOM, 7);
@@ -208,6 +214,7 @@ static void play_shot(uint64_t seed, uint32_t number) {
         if (r.kind == LIST && chance(&shot.dice, 1, 2)) room = 16 * present_defects(&t) - (present_defects(&t) > 0 && chance(&shot.dice, 1, 3));
         length += write_request(every + length, &r);
         request(&r, room);
+        put_question(r.touch_1);
     }
     runs(&shot, every, length);
 }

@@ -9,6 +9,7 @@
 #include "judge.h"
 #include "nests.h"
 #include "original.h"
+#include "partners.h"
 #include "port.h"
 #include "progress.h"
 #include "shots.h"
@@ -23,6 +24,7 @@ static struct {
     unsigned long by_plan[PLANS], nested_expansions[3], commands;
     int deepest, largest_tree, longest_way, largest_ring;
     unsigned char begin_used[257];
+    Partners partners;
 } counts;
 
 static unsigned long all_accepted(void) {
@@ -137,6 +139,12 @@ static void measure(const View *t, const Request *r, Row row, const View *after)
     }
 }
 
+/* A table that a request left, or a damaged one: every defect's partner is the one that the listing names. */
+static void try_partners(const uint16_t *words, const View *t, uint32_t another) {
+    long wrong = wrong_partner(words, t, another, &counts.partners);
+    if (wrong >= 0 && difference("the partner of a defect", shot_number, step_number, NULL)) printf("  asked for %ld\n", wrong);
+}
+
 /* One request: number and side against the second reading, a refusal's bytes and table against those before, an accepted one's
    against the original's. Says whether it was accepted; what was said stands in out. */
 static int try_request(const char *original, uint16_t *words, const Request *r, size_t room, uint8_t *out, boltclover_size *written) {
@@ -164,6 +172,7 @@ static int try_request(const char *original, uint16_t *words, const Request *r, 
     measure(&before, r, row, &after);
     if (is_sound(&after) && boltclover_sound(words)) counts.kept_sound++;
     else difference("a sound table did not stay sound", shot_number, step_number, r);
+    try_partners(words, &after, r->node_1);
     compare_with(original, &before, r, out, *written, &after);
     return 1;
 }
@@ -185,6 +194,7 @@ static void try_damage(const char *original, Shot *shot, const uint16_t *words) 
     int broken = broken_rule(&t), sound = !broken;
     if (boltclover_sound(hurt) != sound) difference(sound ? "sound to the second reading alone" : "sound to the port alone", shot_number, step_number, NULL);
     counts.damaged++, counts.broken[broken]++;
+    try_partners(hurt, &t, r.node_1);
     try_request(original, hurt, &r, chance(&shot->dice, 1, 8) ? roll(&shot->dice, 4096) : ROOM, out, &written);
     if (sound) return;
     uint8_t tape[] = {2, 0, 5, 0};
@@ -209,6 +219,7 @@ static void try_nest(Shot *shot, uint32_t depth) {
         read_view(&t, bent);
         int broken = broken_rule(&t);
         counts.nests++, counts.nests_broken[broken]++;
+        try_partners(bent, &t, i);
         if (boltclover_sound(bent) != !broken || memcmp(kept, bent, sizeof kept) || (!i && broken))
             difference(broken ? "a nest sound to the port alone" : "a nest sound to the second reading alone", shot_number, i, NULL);
     }
@@ -368,6 +379,7 @@ static void report(uint64_t seed) {
     printf(" the others at no side\n");
     printf("runs: %lu, stopped by the tape's end %lu, the allowance %lu, room %lu, a bad record %lu\n", counts.runs, counts.stops[0], counts.stops[1], counts.stops[2], counts.stops[3]);
     printf("tapes answered as without their padding: %lu, with %lu bytes of padding\n", counts.padded_tapes, counts.padding);
+    printf("partners asked for: %lu; a defect %lu, a virtual vertex %lu, nobody %lu, refused %lu\n", counts.partners.asked, counts.partners.paired, counts.partners.virtually, counts.partners.alone, counts.partners.refused);
     printf("differences: %lu\n", counts.differences);
 }
 

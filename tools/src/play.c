@@ -144,16 +144,19 @@ static Request asked;
 static uint8_t tape_bytes[MOST + 16];
 static const uint8_t *tape;
 static uint32_t length, room, allowance;
-static uint16_t begin, answer;
+static uint16_t begin, defect, answer;
 static struct {
     uint16_t stop, side;
     uint32_t handled;
     boltclover_size written, unread;
+    uint16_t kind, partner;
+    uint32_t through, peer_through;
 } told;
 
 static void nothing(void) {}
 static void make(void) { answer = boltclover_make(table, begin); }
 static void check(void) { answer = boltclover_sound(table); }
+static void ask(void) { answer = boltclover_partner(table, defect, &told.kind, &told.partner, &told.through, &told.peer_through); }
 static void request(void) { answer = call_port(table, &asked, out, room, &told.written, &told.side); }
 static void run(void) {
     answer = boltclover_run(table, tape, length, out, room, allowance, &told.stop, &told.handled, &told.written, &told.unread);
@@ -190,6 +193,7 @@ static void say_stack(const char *name, const Stack *stack) {
 
 static void do_call(void (*call)(void)) {
     told.stop = 9, told.side = 9, told.handled = 9, told.written = 77777, told.unread = 77777;
+    told.kind = 9, told.partner = 9, told.through = 9, told.peer_through = 9;
     if (!measured[0]) {
         call_with(&common_stack, call);
         return;
@@ -200,7 +204,7 @@ static void do_call(void (*call)(void)) {
 
 /* ---- entries */
 
-static uint32_t number, requests, accepted, runs, tables, stored;
+static uint32_t number, requests, accepted, questions, runs, tables, stored;
 
 static void head(const char *what) { say_number(++number), say(" "), say(what); }
 
@@ -228,6 +232,14 @@ static void play_request(void) {
     do_call(request);
     requests++, accepted += answer == 0;
     say(" room"), say_spaced(room), say(":"), say_spaced(answer), say(" side"), say_spaced(told.side), say(" written"), say_size(told.written), say_bytes(told.written), say_words();
+}
+
+static void play_question(void) {
+    defect = take(2);
+    head("partner"), say_spaced(defect);
+    do_call(ask);
+    questions++;
+    say(":"), say_spaced(answer), say(" kind"), say_spaced(told.kind), say_spaced(told.partner), say(" through"), say_spaced(told.through), say_spaced(told.peer_through), say_words();
 }
 
 static void play_run(void) {
@@ -271,6 +283,7 @@ int start(int count, char **arguments) {
         case 'M': begin = take(2), head("make"), say_spaced(begin), do_call(make), say(":"), say_spaced(answer), say_words(); break;
         case 'R': play_request(); break;
         case 'S': head("sound:"), do_call(check), say_spaced(answer), say_words(); break;
+        case 'P': play_question(); break;
         case 'T': play_run(); break;
         case 'A': play_answers(); break;
         case 'K':
@@ -286,7 +299,7 @@ int start(int count, char **arguments) {
         }
     }
     say("requests"), say_spaced(requests), say(" accepted"), say_spaced(accepted), say(" refused"), say_spaced(requests - accepted);
-    say(" damaged tables"), say_spaced(tables), say(" runs"), say_spaced(runs), say(" tapes with stored answers"), say_spaced(stored), say("\n");
+    say(" questions"), say_spaced(questions), say(" damaged tables"), say_spaced(tables), say(" runs"), say_spaced(runs), say(" tapes with stored answers"), say_spaced(stored), say("\n");
     say_stack("any other call", &common_stack);
     return 0;
 }

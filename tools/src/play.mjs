@@ -9,12 +9,13 @@ const library = new WebAssembly.Instance(new WebAssembly.Module(readFileSync(pro
 // ---- the caller's memory: the table at an address that is aligned by 2 and no more, bytes at any
 
 const base = (library.__heap_base.value + 7) & ~7;
-const told = base, table = base + 26, bytes = (table + 2 * WORDS + 7) & ~7, tapes = bytes + MOST + 16, end = tapes + MOST + 16;
+const told = base, table = base + 38, bytes = (table + 2 * WORDS + 7) & ~7, tapes = bytes + MOST + 16, end = tapes + MOST + 16;
 const short = Math.ceil((end - library.memory.buffer.byteLength) / 65536);
 if (short > 0) library.memory.grow(short);
 const memory = new Uint8Array(library.memory.buffer), view = new DataView(library.memory.buffer);
 const words = new Uint16Array(library.memory.buffer, table, WORDS);
 const WRITTEN = told, UNREAD = told + 8, HANDLED = told + 16, STOP = told + 20, SIDE = told + 22;
+const THROUGH = told + 24, PEER_THROUGH = told + 28, KIND = told + 32, PARTNER = told + 34;
 const known = new Uint16Array(WORDS);
 let kept = new Uint16Array(WORDS);
 
@@ -105,6 +106,7 @@ function touched() {
 function call(name, ...values) {
     view.setUint16(STOP, 9, true), view.setUint16(SIDE, 9, true), view.setUint32(HANDLED, 9, true);
     view.setBigUint64(WRITTEN, 77777n, true), view.setBigUint64(UNREAD, 77777n, true);
+    view.setUint16(KIND, 9, true), view.setUint16(PARTNER, 9, true), view.setUint32(THROUGH, 9, true), view.setUint32(PEER_THROUGH, 9, true);
     if (measured) deepest = Math.max(deepest, touched()), memory.fill(FILL, 0, STACK);
     const answer = library['boltclover_' + name](...values) >>> 0;
     if (measured) {
@@ -115,7 +117,7 @@ function call(name, ...values) {
     return answer;
 }
 
-let number = 0, requests = 0, accepted = 0, runs = 0, tables = 0, stored = 0;
+let number = 0, requests = 0, accepted = 0, questions = 0, runs = 0, tables = 0, stored = 0;
 
 function playRequest() {
     const room = take(4), length = take(2), kind = take(2);
@@ -128,6 +130,13 @@ function playRequest() {
     requests++, accepted += answer === 0 ? 1 : 0;
     const head = [number, ['', 'conflict', 'virtual', 'expand', 'reset', 'list'][kind], ...fields].join(' ');
     say(`${head} room ${room}: ${answer} side ${kind < 3 ? view.getUint16(SIDE, true) : 0}${saidBytes(kind === 4 ? 0n : view.getBigUint64(WRITTEN, true))}${saidWords()}`);
+}
+
+function playQuestion() {
+    const defect = take(2), answer = call('partner', table, defect, KIND, PARTNER, THROUGH, PEER_THROUGH);
+    number++, questions++;
+    const through = `${view.getUint32(THROUGH, true)} ${view.getUint32(PEER_THROUGH, true)}`;
+    say(`${number} partner ${defect}: ${answer} kind ${view.getUint16(KIND, true)} ${view.getUint16(PARTNER, true)} through ${through}${saidWords()}`);
 }
 
 function playRun() {
@@ -166,6 +175,7 @@ while (at < input.length) {
         say(`${number} make ${begin}: ${call('make', table, begin)}${saidWords()}`);
     } else if (what === 'R') playRequest();
     else if (what === 'S') say(`${++number} sound: ${call('sound', table)}${saidWords()}`);
+    else if (what === 'P') playQuestion();
     else if (what === 'T') playRun();
     else if (what === 'A') playAnswers();
     else if (what === 'K') kept = words.slice();
@@ -175,6 +185,6 @@ while (at < input.length) {
     else if (what === 'N') say(`${++number} == ${takeName()}\n`);
     else process.exit(2);
 }
-say(`requests ${requests} accepted ${accepted} refused ${requests - accepted} damaged tables ${tables} runs ${runs} tapes with stored answers ${stored}\n`);
+say(`requests ${requests} accepted ${accepted} refused ${requests - accepted} questions ${questions} damaged tables ${tables} runs ${runs} tapes with stored answers ${stored}\n`);
 flush();
 writeAll(2, `any other call ${Math.max(deepest, touched())}\n`);
