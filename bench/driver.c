@@ -247,34 +247,34 @@ static void measure(const char *name)
 int main(int argc, char **argv)
 {
 	must(argc >= 3, "run TIMES | sound TABLE TIMES | list TABLE TIMES | partner TABLE DEFECT TIMES | reset TIMES | conflict TABLE WHAT TIMES | before TABLE WHAT TIMES | stack TABLE");
+	/* what is counted is the calls alone: the words are read before */
+	int times = atoi(argv[argc - 1]);
 	if (strcmp(argv[1], "run") == 0) {
-		run(fread(tape, 1, MOST, stdin), atoi(argv[2]));
+		run(fread(tape, 1, MOST, stdin), times);
 	} else if (strcmp(argv[1], "reset") == 0) {
 		build("pairs");
-		for (int i = 0; i < atoi(argv[2]); i++)
+		for (int i = 0; i < times; i++)
 			must(boltclover_reset(table) == 0, "reset is refused");
 	} else if (strcmp(argv[1], "stack") == 0) {
 		measure(argv[2]);
 	} else if (strcmp(argv[1], "partner") == 0) {
 		must(argc == 5, "a table, a defect or `all`, and a number");
 		build(argv[2]);
-		for (int i = 0; i < atoi(argv[4]); i++) {
-			if (strcmp(argv[3], "all") != 0)
-				ask(atoi(argv[3]));
-			else
-				for (uint16_t defect = 0; defect < unnamed; defect++)
-					ask(defect);
-		}
+		int all = strcmp(argv[3], "all") == 0, first = all ? 0 : atoi(argv[3]), last = all ? unnamed - 1 : first;
+		for (int i = 0; i < times; i++)
+			for (int defect = first; defect <= last; defect++)
+				ask(defect);
 	} else if (strcmp(argv[1], "conflict") == 0 || strcmp(argv[1], "before") == 0) {
 		must(argc == 5, "a table, a kind of conflict and a number");
 		build(argv[2]);
-		conflict(argv[3], atoi(argv[4]), strcmp(argv[1], "conflict") == 0);
+		conflict(argv[3], times, strcmp(argv[1], "conflict") == 0);
 	} else {
 		boltclover_size written = 0;
 		must(argc == 4, "a table and a number");
 		build(argv[2]);
-		for (int i = 0; i < atoi(argv[3]); i++) {
-			if (strcmp(argv[1], "sound") == 0)
+		int checks = strcmp(argv[1], "sound") == 0;
+		for (int i = 0; i < times; i++) {
+			if (checks)
 				must(boltclover_sound(table) == 1, "the table is not sound");
 			else
 				must(boltclover_list(table, out, MOST, &written) == 0, "the listing is refused");

@@ -4,7 +4,6 @@ pub mod numbered;
 pub mod partner;
 
 pub use partner::Partner;
-
 ghost use mathlib.Core.Path.{_≡_};
 ghost use Prim.Native.Nat.{_-_};
 ghost use lib.ListN.{length};

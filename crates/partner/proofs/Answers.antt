@@ -1,5 +1,5 @@
 -- The answer one test at a time, as the code takes them.
-use mathlib.Core.Path.{_≡_, refl, sym, ap, _∙_}
+use mathlib.Core.Path.{_≡_, sym, ap, _∙_}
 use mathlib.Core.Bool.{Bool, true, false}
 use mathlib.Core.List.{List}
 use Prim.Native.Nat.{ℕ}
@@ -17,7 +17,6 @@ use Rattle.record.specs.declared.answer.Record.the-variants as R
 use Rattle.rules.specs.Slots.{isStay}
 use Rattle.rules.specs.Sound.{sound}
 use Rattle.rules.specs.Listing.{pairOf, virtualPairOf, pairEntry, virtualEntry}
-use Rattle.rules.specs.Partner.{entry}
 use Rattle.outcome.specs.declared.partner.Partner.{Partner}
 use Rattle.outcome.specs.declared.partner.Partner.the-variants as P
 use Rattle.outcome.specs.Partner.{partnerBy, laterPartner}

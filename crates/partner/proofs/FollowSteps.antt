@@ -1,6 +1,5 @@
 -- Rings and links, one step at a time, as the code takes them: premises in the code's order.
 use mathlib.Core.Path.{_≡_, refl, sym, ap, _∙_}
-use mathlib.Core.Bool.{true, false}
 use mathlib.Core.List.{List}
 use Prim.Native.Nat.{ℕ, zero, suc, _-_, _<_}
 use native.Mathlib.Omega.{arith}
@@ -9,8 +8,8 @@ use borrow.Author.Tests.{eq-eqb, ne-eqb}
 use Rattle.lists.proofs.Budget.{fewer}
 use Rattle.slot.specs.Slot.{Link, noLink, mirror}
 use Rattle.table.specs.Table.{Table, at}
-use Rattle.rules.specs.Act.{choose}
 use Rattle.rules.specs.Partner.{ringLink}
+use Rattle.theorems_partner.proofs.EntryLaws.{ring-first, ring-second, ring-further}
 use Rattle.partner.specs.Way.{besideWay}
 use Rattle.partner.specs.Following.{turnedOff, followed}
 
@@ -18,24 +17,21 @@ module _ (t : Table) where
   -- ---- the ring
 
   module _ (x n : ℕ) where
-    pub ring-spent : (k : ℕ) → k ≡ 0 → ringLink k x n t ≡ noLink
+    pub no-link-left : (k : ℕ) → k ≡ 0 → ringLink k x n t ≡ noLink
     unfolding ringLink
-    ring-spent k e = rw e
+    no-link-left k e = rw e
 
-    pub ring-first : (k : ℕ) (l : Link) → 0 < k → x ≡ n → l ≡ at t n .link → l ≡ ringLink k x n t
-    unfolding ringLink choose
-    ring-first zero l h e q = absurd (omega arith)
-    ring-first (suc k) l h e q = rw (eq-eqb x n e, q)
+    pub first-link : (k : ℕ) (l : Link) → 0 < k → x ≡ n → l ≡ at t n .link → l ≡ ringLink k x n t
+    first-link zero l h e q = absurd (omega arith)
+    first-link (suc k) l h e q = q ∙ sym (ring-first t k x n e)
 
-    pub ring-second : (k m : ℕ) (l r : Link) → 0 < k → (x ≡ n → ⊥) → m ≡ at t n .sibling → x ≡ m → l ≡ at t n .link → r ≡ mirror l → r ≡ ringLink k x n t
-    unfolding ringLink choose
-    ring-second zero m l r h d e s q p = absurd (omega arith)
-    ring-second (suc k) m l r h d e s q p = rw (ne-eqb x n d, eq-eqb x (at t n .sibling) (s ∙ e), p, q)
+    pub second-link : (k m : ℕ) (l r : Link) → 0 < k → (x ≡ n → ⊥) → m ≡ at t n .sibling → x ≡ m → l ≡ at t n .link → r ≡ mirror l → r ≡ ringLink k x n t
+    second-link zero m l r h d e s q p = absurd (omega arith)
+    second-link (suc k) m l r h d e s q p = p ∙ ap mirror q ∙ sym (ring-second t k x n d (s ∙ e))
 
-    pub ring-more : (k m o : ℕ) → 0 < k → (x ≡ n → ⊥) → m ≡ at t n .sibling → (x ≡ m → ⊥) → o ≡ at t m .sibling → ringLink (k - 1) x o t ≡ ringLink k x n t
-    unfolding ringLink choose
-    ring-more zero m o h d e s q = absurd (omega arith)
-    ring-more (suc k) m o h d e s q = rw (ne-eqb x n d, ne-eqb x (at t n .sibling) (λ z. s (z ∙ sym e)), fewer k, q, e)
+    pub further-link : (k m o : ℕ) → 0 < k → (x ≡ n → ⊥) → m ≡ at t n .sibling → (x ≡ m → ⊥) → o ≡ at t m .sibling → ringLink (k - 1) x o t ≡ ringLink k x n t
+    further-link zero m o h d e s q = absurd (omega arith)
+    further-link (suc k) m o h d e s q = rw (fewer k, q, e) (sym (ring-further t k x n d (λ z. s (z ∙ sym e))))
 
   module _ (w : List ℕ) where
     -- ---- across a ring
@@ -55,7 +51,10 @@ module _ (t : Table) where
       followed-stop zero e = refl
       followed-stop (suc k) e = rw (eq-eqb (l .touch) d e)
 
-      pub followed-more : (k : ℕ) (m : Link) → 0 < k → (l .touch ≡ d → ⊥) → m ≡ turnedOff t w (l .touch) → followed (k - 1) t w d m ≡ followed k t w d l
+      pub followed-inward : (k : ℕ) → (l .touch ≡ d → ⊥) → followed (suc k) t w d l ≡ followed k t w d (turnedOff t w (l .touch))
       unfolding followed
+      followed-inward k n = rw (ne-eqb (l .touch) d n)
+
+      pub followed-more : (k : ℕ) (m : Link) → 0 < k → (l .touch ≡ d → ⊥) → m ≡ turnedOff t w (l .touch) → followed (k - 1) t w d m ≡ followed k t w d l
       followed-more zero m h n e = absurd (omega arith)
-      followed-more (suc k) m h n e = rw (fewer k, ne-eqb (l .touch) d n, e)
+      followed-more (suc k) m h n e = rw (fewer k, e) (sym (followed-inward k n))

@@ -1,23 +1,21 @@
 -- On a sound table the links that are followed inward come to the defect's own: `followedEntry` is `entry`.
 use mathlib.Core.Path.{_≡_, refl, sym, ap, _∙_}
 use mathlib.Core.Logic.{_≢_, _⊎_, inl, inr}
-use mathlib.Core.Bool.{Bool, not}
-use mathlib.Core.List.{List}
+use mathlib.Core.Bool.{not}
 use Prim.Native.Nat.{ℕ, zero, suc, _≤_, _<_}
 use native.Mathlib.Omega.{arith}
 use lib.Dec.{T, T-not, ltb→lt}
-use lib.ListN.{getD}
 use Rattle.slot.specs.declared.state.State.the-variants as S
-use Rattle.slot.specs.Slot.{Link, noLink}
+use Rattle.slot.specs.Slot.{noLink}
 use Rattle.table.specs.Table.{Table, at, Full}
-use Rattle.table.specs.Nodes.{isDefect, present, isPresentDefect, inner}
+use Rattle.table.specs.Nodes.{isDefect, present, isPresentDefect}
 use Rattle.table.specs.Climb.{outerBlossom}
 use Rattle.rules.specs.Slots.{isStay, up, next}
 use Rattle.rules.specs.Sound.{sound}
 use Rattle.rules.specs.Partner.{ringLink, entry}
 use Rattle.theorems_soundness.specs.FactsOfBlossoms.{InnerChild, Inside, DefectInside}
 use Rattle.theorems_soundness.specs.Facts.{Sound}
-use Rattle.theorems_soundness.proofs.Reflect.{and→, pick-yes, pick-no, test-case, eqb-yes, eqb-no, same-or-not}
+use Rattle.theorems_soundness.proofs.Reflect.{and→, pick-yes, pick-no, test-case, same-or-not}
 use Rattle.theorems_soundness.proofs.ReflectSlots.{stay↔, inner-present}
 use Rattle.theorems_soundness.proofs.SoundFacts.{sound→facts}
 use Rattle.theorems_soundness.proofs.Past.{present-below}
@@ -28,19 +26,9 @@ use Rattle.theorems_partner.proofs.SlotEntries.{stay-entry, stay-touch, unmatch
 use Rattle.partner.specs.Way.{besideWay}
 use Rattle.partner.specs.Following.{turnedOff, followed, wayOf, followedEntry}
 use Rattle.partner.proofs.WayLaws.{Beside, way-below, beside-way}
+use Rattle.partner.proofs.FollowSteps.{followed-stop, followed-inward}
 
 module _ (t : Table) (full : Full t) (facts : Sound t) (d : ℕ) (defect : d < t .begin) where
-  w : List ℕ
-  w = wayOf t d
-
-  followed-here : (k : ℕ) (l : Link) → l .touch ≡ d → followed (suc k) t (wayOf t d) d l ≡ l
-  unfolding followed
-  followed-here k l e = rw (eqb-yes (l .touch) d e)
-
-  followed-inward : (k : ℕ) (l : Link) → l .touch ≢ d → followed (suc k) t (wayOf t d) d l ≡ followed k t (wayOf t d) d (turnedOff t (wayOf t d) (l .touch))
-  unfolding followed
-  followed-inward k l n = rw (eqb-no (l .touch) d n)
-
   -- the ring node on the way, its link and its touch
   record Inward (x : ℕ) : Type 0 where
     node : ℕ
@@ -92,21 +80,15 @@ module _ (t : Table) (full : Full t) (facts : Sound t) (d : ℕ) (defect : d < t
   follow zero x p h i l = absurd (omega (arith, nodes-some t full (facts .rest) x (present-below t full x p)))
   follow (suc k) x p h i l =
       elim (same-or-not (entry t x .touch) d) [
-        | inl e ↦ followed-here k (entry t x) e ∙ sym (same-at-touch t full (facts .rest) x d d h defect e (inside-self t d))
+        | inl e ↦ followed-stop t (wayOf t d) d (entry t x) (suc k) e ∙ sym (same-at-touch t full (facts .rest) x d d h defect e (inside-self t d))
         | inr n ↦
             let r = inward x p h i n in
-            followed-inward k (entry t x) n
+            followed-inward t (wayOf t d) d (entry t x) k n
             ∙ ap (followed k t (wayOf t d) d) (r .link-is)
             ∙ follow k (r .node) (r .there) (r .around) (r .touched) (omega (arith, r .smaller))
       ]
 
   module _ (there : T (present t d)) where
-    home : ℕ
-    home = outerBlossom t d
-
-    stay : Bool
-    stay = isStay (at t (outerBlossom t d) .state)
-
     matched : at t (outerBlossom t d) .state ≡ S.Stay → followed 256 t (wayOf t d) d (at t (outerBlossom t d) .link) ≡ entry t d
     matched s =
         let h = outerBlossom t d in

@@ -1,5 +1,5 @@
-pub mod WayLaws
-pub mod FollowedEntry
 pub mod WaySteps
+pub mod WayLaws
 pub mod FollowSteps
+pub mod FollowedEntry
 pub mod Answers

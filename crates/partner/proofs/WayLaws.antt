@@ -13,7 +13,7 @@ use Rattle.table.specs.Table.{Table, Full}
 use Rattle.table.specs.Nodes.{inner}
 use Rattle.rules.specs.Slots.{up}
 use Rattle.theorems_soundness.specs.Chain.{Steps}
-use Rattle.theorems_soundness.specs.FactsOfBlossoms.{InnerChild, Inside}
+use Rattle.theorems_soundness.specs.FactsOfBlossoms.{Inside}
 use Rattle.theorems_soundness.specs.Facts.{Rest}
 use Rattle.theorems_soundness.proofs.Reflect.{test-true, test-false, eqb-no, test-case}
 use Rattle.theorems_soundness.proofs.Past.{inner-below}
@@ -23,20 +23,13 @@ use Rattle.theorems_soundness.proofs.InsideLaws.{inside-self, inside-ring-node,
 use Rattle.theorems_requests.proofs.InsideCounts.{inside-or-not}
 use Rattle.partner.specs.Way.{noted, isNoted, besideWay}
 use Rattle.partner.specs.Following.{wayOf}
+use Rattle.partner.proofs.WaySteps.{noted-stop, noted-inner, beside-here, beside-above}
 
 module _ (t : Table) (full : Full t) (rest : Rest t) where
   grow : (j a b : ℕ) → Steps (inner t) (up t) j a b → j + a ≤ b
   grow = steps-grow (inner t) (up t) (λ j q. rest .inners j q .larger)
 
   -- ---- what is noted
-
-  noted-inner : (k n : ℕ) (w : List ℕ) → T (inner t n) → noted (suc k) t n w ≡ noted k t (up t n) (set w (up t n) n)
-  unfolding noted
-  noted-inner k n w i = rw (test-true (inner t n) i)
-
-  noted-outer : (k n : ℕ) (w : List ℕ) → ¬ T (inner t n) → noted (suc k) t n w ≡ w
-  unfolding noted
-  noted-outer k n w i = rw (test-false (inner t n) i)
 
   -- a number that no node of the climb has as parent
   noted-other : (k n z : ℕ) (w : List ℕ) → ((j y : ℕ) → Steps (inner t) (up t) j n y → T (inner t y) → up t y ≢ z) → getD (noted k t n w) z 0 ≡ getD w z 0
@@ -45,20 +38,20 @@ module _ (t : Table) (full : Full t) (rest : Rest t) where
   noted-other (suc k) n z w h =
       elim (test-case (inner t n)) [
         | inl i ↦
-            ap (λ (v : List ℕ). getD v z 0) (noted-inner k n w i)
+            ap (λ (v : List ℕ). getD v z 0) (noted-inner t w n k (test-true (inner t n) i))
             ∙ noted-other k (up t n) z (set w (up t n) n) (λ j y p. h (suc j) y (i, p))
             ∙ getD-set-other w (up t n) z n 0 (λ e. h zero n refl i (sym e))
-        | inr o ↦ ap (λ (v : List ℕ). getD v z 0) (noted-outer k n w (T-not (inner t n) o))
+        | inr o ↦ ap (λ (v : List ℕ). getD v z 0) (noted-stop t w n (suc k) (test-false (inner t n) (T-not (inner t n) o)))
       ]
 
   noted-there : (j k n y : ℕ) (w : List ℕ) → Steps (inner t) (up t) j n y → T (inner t y) → j < k → length w ≡ 256 → getD (noted k t n w) (up t y) 0 ≡ y
   noted-there j zero n y w p i l q = absurd (omega arith)
   noted-there zero (suc k) n y w p i l q =
-      rw p (ap (λ (v : List ℕ). getD v (up t y) 0) (noted-inner k y w i)
+      rw p (ap (λ (v : List ℕ). getD v (up t y) 0) (noted-inner t w y k (test-true (inner t y) i))
       ∙ noted-other k (up t y) (up t y) (set w (up t y) y) (λ m z s h e. omega (arith, grow m (up t y) z s, rest .inners z h .larger))
       ∙ getD-set-same w (up t y) y 0 (omega (arith, inner-parent-below t full rest y i)))
   noted-there (suc j) (suc k) n y w p i l q =
-      ap (λ (v : List ℕ). getD v (up t y) 0) (noted-inner k n w (p .0))
+      ap (λ (v : List ℕ). getD v (up t y) 0) (noted-inner t w n k (test-true (inner t n) (p .0)))
       ∙ noted-there j k (up t n) y (set w (up t n) n) (p .1) i (omega arith) (length-set w (up t n) n ∙ q)
 
   -- ---- the way up from d
@@ -95,25 +88,17 @@ module _ (t : Table) (full : Full t) (rest : Rest t) where
       pub holds : Inside t y z
       pub within : Inside t x (up t y)
 
-    beside-here : (k z : ℕ) → T (isNoted (wayOf t d) (up t z)) → besideWay (suc k) t (wayOf t d) z ≡ z
-    unfolding besideWay
-    beside-here k z h = rw (test-true (isNoted (wayOf t d) (up t z)) h)
-
-    beside-above : (k z : ℕ) → ¬ T (isNoted (wayOf t d) (up t z)) → besideWay (suc k) t (wayOf t d) z ≡ besideWay k t (wayOf t d) (up t z)
-    unfolding besideWay
-    beside-above k z h = rw (test-false (isNoted (wayOf t d) (up t z)) h)
-
     beside : (j k x z : ℕ) → Steps (inner t) (up t) j z x → Inside t x d → ¬ Inside t z d → j ≤ k → Beside x z (besideWay k t (wayOf t d) z)
     beside zero k x z p h n l = absurd (n (rw p h))
     beside (suc j) zero x z p h n l = absurd (omega arith)
     beside (suc j) (suc k) x z p h n l =
         elim (inside-or-not t full rest (up t z) d) [
           | inl on ↦
-              rw (beside-here k z (on-way (up t z) (rest .inners z (p .0) .parent .blossom) on))
+              rw (beside-here t (wayOf t d) z k (test-true (isNoted (wayOf t d) (up t z)) (on-way (up t z) (rest .inners z (p .0) .parent .blossom) on)))
               (record { is-inner = p .0; off = n; on = on; holds = inside-self t z; within = record { steps = j; climb = p .1 } })
           | inr off ↦
               let r = beside j k x (up t z) (p .1) h off (omega arith) in
-              rw (beside-above k z (off-way (up t z) (inner-parent-below t full rest z (p .0)) off))
+              rw (beside-above t (wayOf t d) z k (test-false (isNoted (wayOf t d) (up t z)) (off-way (up t z) (inner-parent-below t full rest z (p .0)) off)))
               (record {
                 is-inner = r .is-inner;
                 off = r .off;

@@ -10,7 +10,8 @@ use Rattle.lists.proofs.Budget.{fewer}
 use Rattle.slot.specs.Number.{none}
 use Rattle.table.specs.Table.{Table, at}
 use Rattle.table.specs.Nodes.{inner}
-use Rattle.partner.specs.Way.{noted, besideWay}
+use Rattle.rules.specs.Slots.{up}
+use Rattle.partner.specs.Way.{noted, isNoted, besideWay}
 
 module _ (t : Table) (w : List ℕ) (n : ℕ) where
   -- ---- the way
@@ -24,10 +25,13 @@ module _ (t : Table) (w : List ℕ) (n : ℕ) where
   noted-stop zero q = refl
   noted-stop (suc k) q = rw q
 
-  pub noted-more : (k m : ℕ) (v : List ℕ) → 0 < k → inner t n ≡ true → m ≡ at t n .parent → v ≡ set w m n → noted (k - 1) t m v ≡ noted k t n w
+  pub noted-inner : (k : ℕ) → inner t n ≡ true → noted (suc k) t n w ≡ noted k t (up t n) (set w (up t n) n)
   unfolding noted
+  noted-inner k q = rw q
+
+  pub noted-more : (k m : ℕ) (v : List ℕ) → 0 < k → inner t n ≡ true → m ≡ at t n .parent → v ≡ set w m n → noted (k - 1) t m v ≡ noted k t n w
   noted-more zero m v h q p s = absurd (omega arith)
-  noted-more (suc k) m v h q p s = rw (fewer k, q, s, p)
+  noted-more (suc k) m v h q p s = rw (fewer k, s, p) (sym (noted-inner k q))
 
   -- ---- beside it
 
@@ -35,12 +39,22 @@ module _ (t : Table) (w : List ℕ) (n : ℕ) where
   unfolding besideWay
   beside-spent k e = rw e
 
-  pub beside-stop : (k m x : ℕ) → 0 < k → m ≡ at t n .parent → x ≡ getD w m 0 → (x ≡ none → ⊥) → besideWay k t w n ≡ n
+  pub beside-here : (k : ℕ) → isNoted w (up t n) ≡ true → besideWay (suc k) t w n ≡ n
   unfolding besideWay
-  beside-stop zero m x h p q d = absurd (omega arith)
-  beside-stop (suc k) m x h p q d = let s = rw p at q in rw (ne-eqb (getD w (at t n .parent) 0) none (λ e. d (s ∙ e)))
+  beside-here k q = rw q
 
-  pub beside-more : (k m x : ℕ) → 0 < k → m ≡ at t n .parent → x ≡ getD w m 0 → x ≡ none → besideWay (k - 1) t w m ≡ besideWay k t w n
+  pub beside-above : (k : ℕ) → isNoted w (up t n) ≡ false → besideWay (suc k) t w n ≡ besideWay k t w (up t n)
   unfolding besideWay
-  beside-more zero m x h p q e = absurd (omega arith)
-  beside-more (suc k) m x h p q e = let s = rw p at q in rw (fewer k, eq-eqb (getD w (at t n .parent) 0) none (sym s ∙ e), p)
+  beside-above k q = rw q
+
+  module _ (m x : ℕ) (p : m ≡ at t n .parent) (q : x ≡ getD w m 0) where
+    number-above : x ≡ getD w (up t n) 0
+    number-above = rw p at q
+
+    pub beside-stop : (k : ℕ) → 0 < k → (x ≡ none → ⊥) → besideWay k t w n ≡ n
+    beside-stop zero h d = absurd (omega arith)
+    beside-stop (suc k) h d = beside-here k (rw (ne-eqb (getD w (up t n) 0) none (λ e. d (number-above ∙ e))))
+
+    pub beside-more : (k : ℕ) → 0 < k → x ≡ none → besideWay (k - 1) t w m ≡ besideWay k t w n
+    beside-more zero h e = absurd (omega arith)
+    beside-more (suc k) h e = rw (fewer k, p) (sym (beside-above k (rw (eq-eqb (getD w (up t n) 0) none (sym number-above ∙ e)))))

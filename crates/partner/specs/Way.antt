@@ -18,7 +18,7 @@ noted (suc k) t n w = let above = noted k t (up t n) (set w (up t n) n) in pick 
 abbrev pub isNoted : List ℕ → ℕ → Bool
 isNoted w n = not (eqb (getD w n 0) none)
 
--- the last node of the climb from n whose parent is not noted
+-- the first node of the climb from n whose parent is noted
 unfoldable pub besideWay : ℕ → Table → List ℕ → ℕ → ℕ
 besideWay zero t w n = n
 besideWay (suc k) t w n = let above = besideWay k t w (up t n) in pick (isNoted w (up t n)) n above

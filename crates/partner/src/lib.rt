@@ -26,7 +26,8 @@ fn entry_of(t: &Table, d: Node) -> Link
     let mut below: [u16; 256] = [number::NO_NODE; 256];
     let home = way::note_way(t, &mut below, d);
     let state = field::state(t, home);
-    if !sound_slots::value::is_stay(state) {
+    let is_matched = sound_slots::value::is_stay(state);
+    if !is_matched {
         return link::no_link();
     }
     let first = field::link(t, home);

@@ -8,7 +8,7 @@ use table::numbers::set_number;
 ghost use mathlib.Core.Path.{_≡_};
 ghost use Rattle.table.specs.Words.{tableOf};
 ghost use Rattle.table.specs.Climb.{outerBlossom};
-ghost use Rattle.partner.specs.Way.{isNoted, noted, besideWay};
+ghost use Rattle.partner.specs.Way.{noted, besideWay};
 
 // Notes the way, and gives the outer node at its end.
 pub fn note_way(t: &Table, below: &mut [u16], d: Node) -> Node
@@ -28,7 +28,7 @@ pub fn note_way(t: &Table, below: &mut [u16], d: Node) -> Node
     here
 }
 
-// The last node of the climb from n that is not on the way.
+// The first node of the climb from n whose parent is on the way.
 pub fn beside_way(t: &Table, below: &[u16], n: Node) -> Node
     ensures { λ r. ⌜ r .0 ≡ besideWay 256 (tableOf (now (t .entry))) (now (below .entry)) (n .0) ⌝ }
 {

@@ -1,6 +1,7 @@
 pub mod Runs
 pub mod Script
 pub mod RuleExamples
+pub mod PartnerExamples
 pub mod SideExamples
 pub mod ConcernedExamples
 pub mod RunInduction

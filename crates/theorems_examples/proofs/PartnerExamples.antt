@@ -1,19 +1,15 @@
 -- Worked examples of the question for a partner (ticket 3 of 02): (e) and (c) of 01, two blossoms matched to one another of which one is
 -- nested, asked from each defect, and what is refused.
 use mathlib.Core.Path.{_≡_, refl}
-use mathlib.Core.Bool.{true, false}
+use mathlib.Core.Bool.{true}
 use mathlib.Core.List.{List, [], _∷_, _++_}
 use Prim.Native.Nat.{ℕ}
-use Rattle.slot.specs.Slot.{Slot}
 use Rattle.table.specs.Table.{Table, at, put}
 use Rattle.table.specs.Making.{fresh}
 use Rattle.refusal.specs.declared.Refusal.the-variants.{NotSound, NoSuchNode}
 use Rattle.record.specs.declared.request.Request.{Request}
-use Rattle.record.specs.declared.answer.Pair.{Pair}
-use Rattle.record.specs.declared.answer.VirtualPair.{VirtualPair}
 use Rattle.rules.specs.Act.{nodeOf}
 use Rattle.rules.specs.Slots.{withSibling}
-use Rattle.rules.specs.Sound.{sound}
 use Rattle.rules.specs.Listing.{vertexOf, listing}
 use Rattle.rules.specs.Partner.{ringNode, ringLink, linkBeside, linkInside, entryWithin}
 use Rattle.rules.specs.Script.{meet, join, border, after, acceptedInTurn}

@@ -25,7 +25,7 @@ use Rattle.rules.specs.Refusals.{_when_, firstOf}
 use Rattle.outcome.specs.declared.partner.Partner.{Partner}
 use Rattle.outcome.specs.declared.partner.Partner.the-variants as P
 use Rattle.outcome.specs.Partner.{partnerBy, unlessRefused, partnerOf}
-use Rattle.outcome.specs.PartnerInNumbers.{partnerKind}
+use Rattle.outcome.specs.PartnerInNumbers.{partnerNumber, partnerKind}
 use Rattle.theorems_requests.specs.Named.{namedIn, times, isListed, Entry, Each}
 use Rattle.theorems_partner.specs.Told.{turned, told}
 use Rattle.theorems_soundness.proofs.Reflect.{and→, pick-no, test-true, test-case, eqb-no, not-eqb↔}
@@ -126,48 +126,40 @@ module _ (t : Table) (full : Full t) (s : T (sound t)) where
 
 -- ---- what an answer tells of the checks and of the link
 
-told-defect :
-    (s h a b : Bool) (x : VirtualPair) (y p : Pair)
-    → unlessRefused (firstOf (NotSound when not s ∷ NoSuchNode when not h ∷ [])) (pick a P.Nobody (pick b (P.Virtual x) (P.Defect y))) ≡ P.Defect p
-    → T s × T h × T (not a) × T (not b) × (y ≡ p)
-told-defect false h a b x y p e = absurd (omega (arith, ap partnerKind e))
-told-defect true false a b x y p e = absurd (omega (arith, ap partnerKind e))
-told-defect true true true b x y p e = absurd (omega (arith, ap partnerKind e))
-told-defect true true false true x y p e = absurd (omega (arith, ap partnerKind e))
-told-defect true true false false x y p e = (tt, tt, tt, tt, cc)
+accepted-as : (s h : Bool) (a b : Partner) → unlessRefused (firstOf (NotSound when not s ∷ NoSuchNode when not h ∷ [])) a ≡ b → partnerNumber b ≡ 0 → T s × T h × (a ≡ b)
+accepted-as false h a b e z = absurd (omega (arith, ap partnerNumber e))
+accepted-as true false a b e z = absurd (omega (arith, ap partnerNumber e))
+accepted-as true true a b e z = (tt, tt, e)
 
-told-virtual :
-    (s h a b : Bool) (x p : VirtualPair) (y : Pair)
-    → unlessRefused (firstOf (NotSound when not s ∷ NoSuchNode when not h ∷ [])) (pick a P.Nobody (pick b (P.Virtual x) (P.Defect y))) ≡ P.Virtual p
-    → T s × T h × T (not a) × (x ≡ p)
-told-virtual false h a b x p y e = absurd (omega (arith, ap partnerKind e))
-told-virtual true false a b x p y e = absurd (omega (arith, ap partnerKind e))
-told-virtual true true true b x p y e = absurd (omega (arith, ap partnerKind e))
-told-virtual true true false true x p y e = (tt, tt, tt, cc)
-told-virtual true true false false x p y e = absurd (omega (arith, ap partnerKind e))
+by-defect : (n v : Bool) (x : VirtualPair) (y p : Pair) → pick n P.Nobody (pick v (P.Virtual x) (P.Defect y)) ≡ P.Defect p → T (not n) × T (not v) × (y ≡ p)
+by-defect true v x y p e = absurd (omega (arith, ap partnerKind e))
+by-defect false true x y p e = absurd (omega (arith, ap partnerKind e))
+by-defect false false x y p e = (tt, tt, cc)
+
+by-virtual : (n v : Bool) (x p : VirtualPair) (y : Pair) → pick n P.Nobody (pick v (P.Virtual x) (P.Defect y)) ≡ P.Virtual p → T (not n) × (x ≡ p)
+by-virtual true v x p y e = absurd (omega (arith, ap partnerKind e))
+by-virtual false true x p y e = (tt, cc)
+by-virtual false false x p y e = absurd (omega (arith, ap partnerKind e))
 
 module _ (t : Table) (full : Full t) (d : ℕ) where
-  l : Link
-  l = entry t d
+  some-touch : T (not (isNone (entry t d .touch))) → entry t d .touch ≢ none
+  some-touch = not-eqb↔ (entry t d .touch) none .0
 
   module _ (p : Pair) (e : partnerOf t d ≡ P.Defect p) where
-    defect-parts : T (sound t) × T (isPresentDefect t d) × T (not (isNone (l .touch))) × T (not (isNone (l .peerTouch))) × (pairOf l ≡ p)
-    unfolding l
-    defect-parts = told-defect (sound t) (isPresentDefect t d) (isNone (entry t d .touch)) (isNone (entry t d .peerTouch)) _ _ p e
+    checked : T (sound t) × T (isPresentDefect t d) × (partnerBy (entry t d) ≡ P.Defect p)
+    checked = accepted-as (sound t) (isPresentDefect t d) (partnerBy (entry t d)) (P.Defect p) e refl
+
+    paired : T (not (isNone (entry t d .touch))) × T (not (isNone (entry t d .peerTouch))) × (pairOf (entry t d) ≡ p)
+    paired = by-defect (isNone (entry t d .touch)) (isNone (entry t d .peerTouch)) _ _ p (checked .2)
 
     pub defect-asked : p .node ≡ nodeOf d
-    unfolding l
-    defect-asked =
-        let r = defect-parts in
-        ap (λ (q : Pair). q .node) (sym (r .4)) ∙ ap nodeOf (own-touch t full (r .0) d (r .1) (not-eqb↔ (entry t d .touch) none .0 (r .2)))
+    defect-asked = ap (λ (q : Pair). q .node) (sym (paired .2)) ∙ ap nodeOf (own-touch t full (checked .0) d (checked .1) (some-touch (paired .0)))
 
     pub defect-back : partnerOf t (p .peer .0) ≡ P.Defect (turned p)
-    unfolding l
-    defect-back =
-        let r = defect-parts in
-        rw (sym (r .4)) (partner-back t full (r .0) d (r .1) (not-eqb↔ (entry t d .touch) none .0 (r .2)) (not-eqb↔ (entry t d .peerTouch) none .0 (r .3)))
+    defect-back = rw (sym (paired .2)) (partner-back t full (checked .0) d (checked .1) (some-touch (paired .0)) (not-eqb↔ (entry t d .peerTouch) none .0 (paired .1)))
 
   pub virtual-asked : (p : VirtualPair) → partnerOf t d ≡ P.Virtual p → p .node ≡ nodeOf d
   virtual-asked p e =
-      let r = told-virtual (sound t) (isPresentDefect t d) (isNone (entry t d .touch)) (isNone (entry t d .peerTouch)) _ p _ e in
-      ap (λ (q : VirtualPair). q .node) (sym (r .3)) ∙ ap nodeOf (own-touch t full (r .0) d (r .1) (not-eqb↔ (entry t d .touch) none .0 (r .2)))
+      let checked = accepted-as (sound t) (isPresentDefect t d) (partnerBy (entry t d)) (P.Virtual p) e refl in
+      let paired = by-virtual (isNone (entry t d .touch)) (isNone (entry t d .peerTouch)) _ p _ (checked .2) in
+      ap (λ (q : VirtualPair). q .node) (sym (paired .1)) ∙ ap nodeOf (own-touch t full (checked .0) d (checked .1) (some-touch (paired .0)))

@@ -3,10 +3,9 @@
 use mathlib.Core.Path.{_≡_, refl, sym, ap, _∙_}
 use mathlib.Core.Logic.{_≢_, _⊎_, inl, inr}
 use mathlib.Core.List.{List, [], _∷_, _++_}
-use Prim.Native.Nat.{ℕ, zero, suc, _+_, _≤_, _<_}
+use Prim.Native.Nat.{ℕ, suc, _+_, _≤_, _<_}
 use native.Mathlib.Omega.{arith}
 use lib.Dec.{T}
-use lib.ListN.{length}
 use Rattle.slot.specs.Number.{none}
 use Rattle.slot.specs.Slot.{Link, mirror}
 use Rattle.table.specs.Table.{Table, at, Full}
@@ -14,24 +13,19 @@ use Rattle.table.specs.Nodes.{present, inner}
 use Rattle.record.specs.declared.answer.Record.{Record}
 use Rattle.rules.specs.Slots.{up, next}
 use Rattle.rules.specs.Listing.{pairEntry, pairListed, levelsListed, ringListed}
-use Rattle.theorems_soundness.specs.Chain.{_∈_, Steps}
-use Rattle.theorems_soundness.specs.FactsOfBlossoms.{InnerChild, Inside, DefectInside}
+use Rattle.theorems_soundness.specs.Chain.{_∈_}
+use Rattle.theorems_soundness.specs.FactsOfBlossoms.{Inside, DefectInside}
 use Rattle.theorems_soundness.specs.Facts.{Rest}
-use Rattle.theorems_requests.specs.Named.{one, times}
 use Rattle.theorems_soundness.proofs.Reflect.{same-or-not}
-use Rattle.theorems_soundness.proofs.Past.{inner-below}
-use Rattle.theorems_soundness.proofs.Chains.{chain-fits}
-use Rattle.theorems_soundness.proofs.RingLaws.{ring-once, ring-around, in-ring}
 use Rattle.theorems_soundness.proofs.InsideLaws.{inside-self, inside-ring-node, inside-join, inside-ring}
-use Rattle.theorems_requests.proofs.CountLaws.{one-same, one-other, total, total-one}
 use Rattle.theorems_requests.proofs.RestOfRing.{after-in-ring}
 use Rattle.theorems_requests.proofs.InsideCounts.{nodesInside, inside-or-not, defect-inside-alone}
 use Rattle.theorems_requests.proofs.NestedCalls.{Joined, Within, next-level, defect-within, afterOf, on-every-pair, on-every-node}
-use Rattle.theorems_requests.proofs.ListingLaws.{insideListed, inside-defect-listed, inside-blossom-listed, pair-listed, last-level-listed, level-listed, ring-end-listed, ring-pair-listed}
-use Rattle.rules.specs.Partner.{ringLink, entry}
+use Rattle.theorems_requests.proofs.ListingLaws.{insideListed, inside-blossom-listed, pair-listed, last-level-listed, level-listed, ring-pair-listed}
+use Rattle.rules.specs.Partner.{entry}
 use Rattle.theorems_partner.proofs.ToldLaws.{Among, among-left, among-right, EntryOf, first, second}
 use Rattle.theorems_partner.proofs.EntryLaws.{Linked}
-use Rattle.theorems_partner.proofs.EntryTouches.{defect-some, same-at-touch, after-all, after-linked}
+use Rattle.theorems_partner.proofs.EntryTouches.{defect-some, same-at-touch, after-linked}
 
 -- the list has the entry of e, which is at e's end of its link
 pub record Listed (t : Table) (e : ℕ) (rs : List Record) : Type 0 where
@@ -112,7 +106,7 @@ module _ (t : Table) (full : Full t) (rest : Rest t) where
     level-ring k d i p l h j n =
         elim (inside-ring t (up t d) e j) [
           | inl z ↦ absurd (omega (arith, rest .inners d i .parent .blossom))
-          | inr r ↦ p (after-linked t full rest d i l h) (r .0) (after-all t full rest d i (r .0) (r .1) (λ z. n (rw z at (r .2)))) (r .2)
+          | inr r ↦ p (after-linked t full rest d i l h) (r .0) (after-in-ring t full rest d i .all (r .0) (r .1) (λ z. n (rw z at (r .2)))) (r .2)
         ]
 
     last-lists : (k b d : ℕ) (i : T (inner t d)) → up t d ≡ b → RingLists k d (next t d) (afterOf t full rest d i) → LevelsList (suc k) b d

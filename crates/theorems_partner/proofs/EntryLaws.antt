@@ -14,23 +14,20 @@ use Rattle.table.specs.Table.{Table, at, Full}
 use Rattle.table.specs.Nodes.{isDefect, present, isPresentDefect, outer, inner}
 use Rattle.table.specs.Climb.{outerBlossom}
 use Rattle.rules.specs.Act.{choose}
-use Rattle.rules.specs.Slots.{isNone, up, next}
+use Rattle.rules.specs.Slots.{up, next}
 use Rattle.rules.specs.Sound.{sound}
-use Rattle.theorems_soundness.specs.Chain.{_∈_, Steps}
+use Rattle.theorems_soundness.specs.Chain.{_∈_, NoDup, Steps}
 use Rattle.theorems_soundness.specs.FactsOfBlossoms.{InnerChild, Inside}
 use Rattle.theorems_soundness.specs.Facts.{Rest}
-use Rattle.theorems_requests.specs.Named.{one, times}
 use Rattle.theorems_soundness.proofs.Reflect.{and→, test-true, test-false, eqb-yes, eqb-no, same-or-not}
-use Rattle.theorems_soundness.proofs.ReflectSlots.{outer-not-inner, inner-present}
+use Rattle.theorems_soundness.proofs.ReflectSlots.{outer-not-inner}
 use Rattle.theorems_soundness.proofs.Past.{outer-below, inner-below}
 use Rattle.theorems_soundness.proofs.Climbing.{steps-grow}
 use Rattle.theorems_soundness.proofs.SoundFacts.{sound→facts}
 use Rattle.theorems_soundness.proofs.RingLaws.{inner-parent-present}
 use Rattle.theorems_soundness.proofs.InsideLaws.{inside-self, one-ring-node, outer-blossom-outer, outer-blossom-holds}
-use Rattle.theorems_requests.proofs.CountLaws.{one-same}
 use Rattle.theorems_requests.proofs.RestOfRing.{Way, TwoByTwo}
 use Rattle.rules.specs.Partner.{ringNode, ringLink, linkBeside, linkInside, matchedLink, entryWithin, entry}
-use Rattle.theorems_partner.proofs.ToldLaws.{named-some}
 
 module _ (t : Table) where
   -- ---- one step
@@ -64,15 +61,15 @@ module _ (t : Table) where
 
   -- ---- two by two
 
-  ring-first : (k x n : ℕ) → x ≡ n → ringLink (suc k) x n t ≡ at t n .link
+  pub ring-first : (k x n : ℕ) → x ≡ n → ringLink (suc k) x n t ≡ at t n .link
   unfolding ringLink choose
   ring-first k x n e = rw (eqb-yes x n e)
 
-  ring-second : (k x n : ℕ) → x ≢ n → x ≡ next t n → ringLink (suc k) x n t ≡ mirror (at t n .link)
+  pub ring-second : (k x n : ℕ) → x ≢ n → x ≡ next t n → ringLink (suc k) x n t ≡ mirror (at t n .link)
   unfolding ringLink choose
   ring-second k x n d e = rw (eqb-no x n d, eqb-yes x (next t n) e)
 
-  ring-further : (k x n : ℕ) → x ≢ n → x ≢ next t n → ringLink (suc k) x n t ≡ ringLink k x (next t (next t n)) t
+  pub ring-further : (k x n : ℕ) → x ≢ n → x ≢ next t n → ringLink (suc k) x n t ≡ ringLink k x (next t (next t n)) t
   unfolding ringLink choose
   ring-further k x n d e = rw (eqb-no x n d, eqb-no x (next t n) e)
 
@@ -87,25 +84,15 @@ module _ (t : Table) where
   linked-same f g (a ∷ []) h p = p
   linked-same f g (a ∷ (c ∷ cs)) h p = (h a (inl refl) ∙ p .0, h c (inr (inl refl)) ∙ p .1, linked-same f g cs (λ x m. h x (inr (inr m))) (p .2))
 
-  -- no number stands twice on the list
-  abbrev pub Once : List ℕ → Type 0
-  Once cs = (x : ℕ) → x ∈ cs → times x cs ≤ 1
-
-  once-more : (a : ℕ) (cs : List ℕ) → Once (a ∷ cs) → Once cs
-  once-more a cs o x m = omega (arith, o x (inr m))
-
-  once-apart : (a : ℕ) (cs : List ℕ) → Once (a ∷ cs) → (x : ℕ) → x ∈ cs → x ≢ a
-  once-apart a cs o x m e = omega (arith, o x (inr m), one-same x a e, named-some x cs m)
-
-  pub ring-linked : (d k n : ℕ) (cs : List ℕ) → Way (next t) n cs d → TwoByTwo cs → Once cs → length cs ≤ 2 * k → Linked (λ x. ringLink k x n t) cs
+  pub ring-linked : (d k n : ℕ) (cs : List ℕ) → Way (next t) n cs d → TwoByTwo cs → NoDup cs → length cs ≤ 2 * k → Linked (λ x. ringLink k x n t) cs
   ring-linked d k n [] p e o l = tt
   ring-linked d k n (a ∷ []) p e o l = e
   ring-linked d zero n (a ∷ (c ∷ cs)) p e o l = absurd (omega arith)
   ring-linked d (suc k) n (a ∷ (c ∷ cs)) p e o l =
-      let apart = once-apart a (c ∷ cs) o in
-      let apart2 = once-apart c cs (once-more a (c ∷ cs) o) in
+      let apart : (x : ℕ) → x ∈ (c ∷ cs) → x ≢ a = λ x m z. o .0 (rw z at m) in
+      let apart2 : (x : ℕ) → x ∈ cs → x ≢ c = λ x m z. o .1 .0 (rw z at m) in
       let q = p .1 .0 in
-      let ih = ring-linked d k (next t c) cs (p .1 .1) e (once-more c cs (once-more a (c ∷ cs) o)) (omega arith) in
+      let ih = ring-linked d k (next t c) cs (p .1 .1) e (o .1 .1) (omega arith) in
       rw (p .0) (
         ring-first k a a refl,
         ring-second k c a (apart c (inl refl)) (sym q),

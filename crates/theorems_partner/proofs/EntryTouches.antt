@@ -16,30 +16,13 @@ use Rattle.rules.specs.Partner.{ringLink, entry}
 use Rattle.theorems_soundness.specs.Chain.{_∈_, Steps}
 use Rattle.theorems_soundness.specs.FactsOfBlossoms.{InnerChild, Inside, DefectInside}
 use Rattle.theorems_soundness.specs.Facts.{Rest}
-use Rattle.theorems_requests.specs.Named.{one, times}
-use Rattle.theorems_soundness.proofs.Reflect.{same-or-not}
 use Rattle.theorems_soundness.proofs.Past.{inner-below}
 use Rattle.theorems_soundness.proofs.Chains.{chain-fits}
-use Rattle.theorems_soundness.proofs.RingLaws.{ring-once, ring-around, in-ring}
+use Rattle.theorems_soundness.proofs.RingLaws.{ring-around}
 use Rattle.theorems_soundness.proofs.InsideLaws.{inside-ring-node, inside-join}
-use Rattle.theorems_requests.proofs.CountLaws.{one-same, one-other, total, total-one}
 use Rattle.theorems_requests.proofs.RestOfRing.{Way, after-in-ring}
 use Rattle.theorems_requests.proofs.NestedCalls.{afterOf, ring-joined}
-use Rattle.theorems_partner.proofs.EntryLaws.{Linked, linked-same, Once, ring-linked, entry-touched, entry-other}
-
--- ---- lists as counts
-
-pub total-times : (x : ℕ) (cs : List ℕ) → total (one x) cs ≡ times x cs
-total-times x [] = refl
-total-times x (c ∷ cs) = omega (arith, total-times x cs)
-
-pub counted-in : (x : ℕ) (cs : List ℕ) → 1 ≤ times x cs → x ∈ cs
-counted-in x [] l = absurd (omega arith)
-counted-in x (c ∷ cs) l = elim (same-or-not x c) [ inl e ↦ inl e | inr d ↦ inr (counted-in x cs (omega (arith, one-other x c d))) ]
-
-length-total : (cs : List ℕ) → total (λ x. 1) cs ≡ length cs
-length-total [] = refl
-length-total (c ∷ cs) = omega (arith, length-total cs)
+use Rattle.theorems_partner.proofs.EntryLaws.{Linked, linked-same, ring-linked, entry-touched, entry-other}
 
 module _ (t : Table) (full : Full t) (rest : Rest t) where
   pub defect-some : (e : ℕ) → e < t .begin → e ≢ none
@@ -60,28 +43,11 @@ module _ (t : Table) (full : Full t) (rest : Rest t) where
   -- ---- the ring nodes after d, where the blossom around them is paired at d
 
   module _ (d : ℕ) (i : T (inner t d)) where
-    in-ring-once : (x : ℕ) → InnerChild t (up t d) x → total (one x) (ring-around t full rest d i .list) ≡ 1
-    in-ring-once x c =
-        let r = ring-around t full rest d i in
-        total-one (one x) x (r .list) (ring-once t (up t d) r) (r .exact x .1 c) (one-same x x refl) (λ y m n. one-other x y (λ e. n (sym e)))
-
-    after-once : Once t (afterOf t full rest d i)
-    after-once x m =
-        let a = after-in-ring t full rest d i in
-        omega (arith, in-ring-once x (a .members x m), a .whole (one x), total-times x (a .list))
-
     after-short : length (afterOf t full rest d i) ≤ 256
     after-short =
-        let a = after-in-ring t full rest d i in
         let r = ring-around t full rest d i in
         let few = chain-fits _ 256 _ (r .list) (r .chain) (λ j m. inner-below t full j (r .exact j .0 m .0)) in
-        omega (arith, a .whole (λ x. 1), length-total (a .list), length-total (r .list), few)
-
-    -- every other ring node comes after d
-    pub after-all : (x : ℕ) → InnerChild t (up t d) x → x ≢ d → x ∈ afterOf t full rest d i
-    after-all x c n =
-        let a = after-in-ring t full rest d i in
-        counted-in x (a .list) (omega (arith, in-ring-once x c, a .whole (one x), one-other x d n, total-times x (a .list)))
+        omega (arith, after-in-ring t full rest d i .fewer, few)
 
     other : entry t (up t d) .touch < t .begin → Inside t d (entry t (up t d) .touch) → (x : ℕ) → InnerChild t (up t d) x → x ≢ d → entry t x ≡ ringLink 128 x (next t d) t
     other l h x c n =
@@ -93,7 +59,7 @@ module _ (t : Table) (full : Full t) (rest : Rest t) where
         let a = after-in-ring t full rest d i in
         linked-same t (λ x. ringLink 128 x (next t d) t) (entry t) (a .list)
         (λ x m. other l h x (a .members x m) (a .others x m))
-        (ring-linked t d 128 (next t d) (a .list) (a .way) (a .even) after-once (omega (arith, after-short)))
+        (ring-linked t d 128 (next t d) (a .list) (a .way) (a .even) (a .once) (omega (arith, after-short)))
 
   -- ---- at a defect inside
 
@@ -108,4 +74,4 @@ module _ (t : Table) (full : Full t) (rest : Rest t) where
   pub entry-across : (y z : ℕ) → T (inner t y) → InnerChild t (up t y) z → z ≢ y → entry t (up t y) .touch < t .begin → Inside t y (entry t (up t y) .touch) → (entry t z ≡ ringLink 128 z (next t y) t) × DefectInside t z (entry t z .touch)
   entry-across y z i c n l h =
       let a = after-in-ring t full rest y i in
-      (other y i l h z c n, linked-touch y (next t y) (a .list) (a .way) (λ x m. a .members x m .0) (after-linked y i l h) z (after-all y i z c n))
+      (other y i l h z c n, linked-touch y (next t y) (a .list) (a .way) (λ x m. a .members x m .0) (after-linked y i l h) z (a .all z c n))

@@ -1,13 +1,12 @@
 -- The whole listing has the entry of every present defect whose outer node is matched; where that node is not matched, nobody is paired with it.
-use mathlib.Core.Path.{_≡_, refl, sym, ap, _∙_}
+use mathlib.Core.Path.{_≡_, sym, ap, _∙_}
 use mathlib.Core.Logic.{_≢_, _⊎_, inl, inr}
-use mathlib.Core.List.{List, [], _∷_, _++_}
+use mathlib.Core.List.{[], _∷_, _++_}
 use Prim.Native.Nat.{ℕ, zero, suc, _+_, _≤_, _<_}
 use native.Mathlib.Omega.{arith}
 use lib.Dec.{T}
-use Rattle.lists.specs.Choice.{pick}
 use Rattle.slot.specs.declared.state.State.the-variants as S
-use Rattle.slot.specs.Slot.{Link, noLink, mirror}
+use Rattle.slot.specs.Slot.{Link, noLink}
 use Rattle.table.specs.Table.{Table, at, Full}
 use Rattle.table.specs.Nodes.{present, outer, inner}
 use Rattle.table.specs.Climb.{outerBlossom}

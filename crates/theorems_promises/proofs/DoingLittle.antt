@@ -28,7 +28,11 @@ use Rattle.rules.specs.Act.{World, worldOf}
 use Rattle.rules.specs.Calls.{actOf, verdict}
 use Rattle.rules.specs.Script.{meet, join}
 use Rattle.rules.proofs.Script.{all-rules}
+use Rattle.rules.specs.Partner.{entryWithin}
+use Rattle.outcome.specs.declared.partner.Partner.the-variants as P
 use Rattle.outcome.specs.Call.{Call}
+use Rattle.outcome.specs.Partner.{partnerOf}
+use Rattle.outcome.specs.PartnerInNumbers.{partnerKind}
 use Rattle.refusal.specs.Refusal.{answerSide, answerWritten}
 use Rattle.theorems_promises.specs.LazyPorts.{room, Fresh, tape}
 use Rattle.theorems_promises.proofs.Accepted.{done}
@@ -161,6 +165,15 @@ one-fixed-table words words′ bytes₁ bytes₂ r₁ r₂ made h =
     (sym first-stay-0
     ∙ ap (staying 0) (sym (new-table (join 0 1) words words′ bytes₁ r₁ made first-accepted (h .0)) ∙ new-table (join 2 3) words words′ bytes₂ r₂ made second-accepted (h .1))
     ∙ second-stay-0)
+
+-- one that answers nobody, whoever's partner is asked for: here where 0 and 1 are a pair
+pair-told : partnerKind (partnerOf (actOf (join 0 1) (fresh 128) .table) 0) ≡ 1
+unfolding all-rules entryWithin
+pair-told = refl
+
+pub always-nobody : (words : List ℕ) → tableOf words ≡ actOf (join 0 1) (fresh 128) .table → ¬ (P.Nobody ≡ partnerOf (tableOf words) 0)
+always-nobody words made h =
+    let e = ap partnerKind (h ∙ ap (λ (t : Table). partnerOf t 0) made) ∙ pair-told in absurd (omega arith)
 
 -- a run that handles its first record and hands back the rest
 pub only-the-first :

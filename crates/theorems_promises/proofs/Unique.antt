@@ -15,7 +15,9 @@ use Rattle.record.specs.Writing.{Wrote, wroteOf, wrote, outOf}
 use Rattle.record.proofs.ReadInNumbers.{read-of-numbers}
 use Rattle.refusal.proofs.Numbers.{same-answer}
 use Rattle.rules.specs.Sound.{sound}
+use Rattle.outcome.specs.declared.partner.Partner.{Partner}
 use Rattle.outcome.specs.Call.{Call, Reset}
+use Rattle.outcome.specs.Partner.{partnerOf}
 use Rattle.outcome.specs.Tape.{Tape}
 use Rattle.theorems_promises.specs.Lent.{Lent}
 use Rattle.theorems_promises.proofs.Determining.{made-once, call-determined, run-determined}
@@ -57,6 +59,10 @@ run-once = run-determined
 -- the soundness check: its promise is an equation for the answer
 pub sound-once : (words : List ℕ) (r r′ : Bool) → r ≡ sound (tableOf words) → r′ ≡ sound (tableOf words) → r ≡ r′
 sound-once words r r′ h k = h ∙ sym k
+
+-- .. and so is that of the question for a partner
+pub partner-once : (words : List ℕ) (d : ℕ) (r r′ : Partner) → r ≡ partnerOf (tableOf words) d → r′ ≡ partnerOf (tableOf words) d → r ≡ r′
+partner-once words d r r′ h k = h ∙ sym k
 
 -- reading
 pub reading-once : (tape : List ℕ) (r r′ : Reading) → Read tape r → Read tape r′ → r ≡ r′

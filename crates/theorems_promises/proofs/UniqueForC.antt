@@ -12,6 +12,8 @@ use Rattle.record.specs.declared.request.Request.the-variants as Q
 use Rattle.rules.specs.Act.{worldOf}
 use Rattle.rules.specs.Calls.{actOf, verdict}
 use Rattle.rules.specs.Run.{runTape}
+use Rattle.outcome.specs.Partner.{partnerOf}
+use Rattle.outcome.specs.PartnerInNumbers.{ToldPartner}
 use Rattle.outcome.specs.Numbered.{Called, CalledWithSide, WasReset, WasMade, Run}
 use Rattle.theorems_promises.specs.Lent.{Lent}
 use Rattle.theorems_promises.proofs.Unique.{make-once, call-once, run-once}
@@ -91,3 +93,12 @@ ran-once allowance words bytes tape number number′ stop stop′ handled handle
     let two = hands-out r words bytes tape number′ stop′ handled′ written′ unread′ words₂ bytes₂ k in
     let same = run-once allowance words bytes tape stop stop′ number number′ handled handled′ written written′ rest rest words₁ words₂ bytes₁ bytes₂ l₁ l₂ (one .1) (two .1) in
     (same .1, same .0, same .2, same .3, one .0 ∙ sym (two .0), same .5, same .6)
+
+-- the question for a partner: its promise is an equation for each number
+pub partner-told-once :
+    (words : List ℕ) (d number number′ kind kind′ partner partner′ through through′ peer peer′ : ℕ)
+    → ToldPartner (partnerOf (tableOf words) d) number kind partner through peer
+    → ToldPartner (partnerOf (tableOf words) d) number′ kind′ partner′ through′ peer′
+    → (number ≡ number′) × (kind ≡ kind′) × (partner ≡ partner′) × (through ≡ through′) × (peer ≡ peer′)
+partner-told-once words d number number′ kind kind′ partner partner′ through through′ peer peer′ h k =
+    (h .0 ∙ sym (k .0), h .1 ∙ sym (k .1), h .2 ∙ sym (k .2), h .3 ∙ sym (k .3), h .4 ∙ sym (k .4))

@@ -3,7 +3,7 @@
 use mathlib.Core.Path.{_≡_, refl, sym, ap, _∙_}
 use mathlib.Core.Logic.{_≢_, inl, inr}
 use mathlib.Core.List.{List, [], _∷_, _++_}
-use Prim.Native.Nat.{ℕ, _+_, _%_}
+use Prim.Native.Nat.{ℕ, suc, _+_, _%_}
 use native.Mathlib.Omega.{arith}
 use lib.Dec.{T}
 use lib.ListN.{length, length-append}
@@ -12,11 +12,11 @@ use Rattle.table.specs.Table.{Table, at, Full}
 use Rattle.table.specs.Nodes.{inner}
 use Rattle.rules.specs.Slots.{up, next}
 use Rattle.rules.specs.Sound.{nextInRing}
-use Rattle.theorems_soundness.specs.Chain.{_∈_, Chain}
+use Rattle.theorems_soundness.specs.Chain.{_∈_, NoDup, Chain}
 use Rattle.theorems_soundness.specs.FactsOfBlossoms.{InnerChild, Ring}
 use Rattle.theorems_soundness.specs.Facts.{Rest}
 use Rattle.theorems_soundness.proofs.Reflect.{same-or-not}
-use Rattle.theorems_soundness.proofs.Members.{Split, in-split, split-length, in-left, in-right, in-append→, nodup-around}
+use Rattle.theorems_soundness.proofs.Members.{Split, in-split, split-length, in-left, in-right, in-append→, nodup-append→, →nodup-append, nodup-around}
 use Rattle.theorems_soundness.proofs.Chains.{chain-split}
 use Rattle.theorems_soundness.proofs.RingLaws.{ring-goes-on, ring-comes-back, ring-once, ring-around, in-ring}
 use Rattle.theorems_requests.proofs.CountLaws.{total, total-append}
@@ -72,6 +72,9 @@ pub record After (t : Table) (d : ℕ) (ring : List ℕ) : Type 0 where
   pub even : TwoByTwo list
   pub members : (c : ℕ) → c ∈ list → InnerChild t (up t d) c
   pub others : (c : ℕ) → c ∈ list → c ≢ d
+  pub all : (c : ℕ) → InnerChild t (up t d) c → c ≢ d → c ∈ list
+  pub once : NoDup list
+  pub fewer : suc (length list) ≡ length ring
   pub whole : (f : ℕ → ℕ) → total f ring ≡ f d + total f list
 
 module _ (t : Table) (full : Full t) (rest : Rest t) where
@@ -88,6 +91,7 @@ module _ (t : Table) (full : Full t) (rest : Rest t) where
       go s =
           let chain = rw (s .split) at (r .chain) in
           let around = nodup-around d (s .before) (s .after) (rw (s .split) at (ring-once t (up t d) r)) in
+          let apart = nodup-append→ (s .before) (s .after) (around .0) in
           let onward = chain-split (nextInRing t first) first (s .before) d (s .after) chain in
           let known : (x : ℕ) → x ∈ (s .before ++ (d ∷ s .after)) → x ∈ r .list = λ x m. rw (s .split) m in
           let moved : (x : ℕ) → x ∈ (s .after ++ s .before) → x ∈ (s .before ++ s .after) =
@@ -103,5 +107,12 @@ module _ (t : Table) (full : Full t) (rest : Rest t) where
                 (omega (arith, r .odd, split-length d (r .list) s, length-append (s .before) (s .after), length-append (s .after) (s .before)));
             members = λ c m. r .exact c .0 (kept c (moved c m));
             others = λ c m e. around .1 (rw e at (moved c m));
+            all = λ c i n. elim (in-append→ (s .before) (d ∷ s .after) c (rw (s .split) at (r .exact c .1 i))) [
+              | inl b ↦ in-right (s .after) (s .before) c b
+              | inr (inl e) ↦ absurd (n e)
+              | inr (inr a) ↦ in-left (s .after) (s .before) c a
+            ];
+            once = →nodup-append (s .after) (s .before) (apart .1) (apart .0) (λ j a b. apart .2 j b a);
+            fewer = omega (arith, split-length d (r .list) s, length-append (s .before) (s .after), length-append (s .after) (s .before));
             whole = λ f. omega (arith, ap (total f) (s .split), total-append f (s .before) (d ∷ s .after), total-append f (s .after) (s .before));
           }

@@ -2,7 +2,7 @@ use borrow.Author.Needs.{needs}
 use mathlib.Core.Path.{_≡_, refl, sym, _∙_}
 use Rattle.table.specs.Words.{tableOf}
 use Rattle.rules.specs.Partner.{ringLink}
-use Rattle.partner.proofs.FollowSteps.{ring-spent, ring-first, ring-second, ring-more}
+use Rattle.partner.proofs.FollowSteps.{no-link-left, first-link, second-link, further-link}
 use Rattle.partner.proofs.following.ring_link.Statement.{statement}
 use Rattle.partner.proofs.following.ring_link.Tie as tie
 
@@ -20,14 +20,14 @@ ring-link-spec =
     μ-loop
     (λ c. refl)
     (λ c κs. search needs)
-    (λ c. ring-first _ _ _ _ _ (c .before .before .before .before .loop-test .taken) (c .before .if1 .taken) (c .link .ensures) ∙ (c .before .before .before .before .before .loop .inv))
+    (λ c. first-link _ _ _ _ _ (c .before .before .before .before .loop-test .taken) (c .before .if1 .taken) (c .link .ensures) ∙ (c .before .before .before .before .before .loop .inv))
     (λ c κs. search needs)
     (λ c κs. search needs)
     (λ c κs. search needs)
-    (λ c. ring-second _ _ _ _ _ _ _ (c .before .before .before .before .before .before .before .before .before .loop-test .taken) (c .before .before .before .before .before .before .if1 .left) (c .before .before .before .before .before .sibling .ensures) (c .before .before .if2 .taken) (c .before .link2 .ensures) (c .mirrored .ensures) ∙ (c .before .before .before .before .before .before .before .before .before .before .loop .inv))
+    (λ c. second-link _ _ _ _ _ _ _ (c .before .before .before .before .before .before .before .before .before .loop-test .taken) (c .before .before .before .before .before .before .if1 .left) (c .before .before .before .before .before .sibling .ensures) (c .before .before .if2 .taken) (c .before .link2 .ensures) (c .mirrored .ensures) ∙ (c .before .before .before .before .before .before .before .before .before .before .loop .inv))
     (λ c κs. search needs)
     (λ c. search needs)
     (λ c. search needs)
-    (λ c. ring-more _ _ _ _ _ _ (c .before .before .before .before .before .before .before .before .loop-test .taken) (c .before .before .before .before .before .if1 .left) (c .before .before .before .before .sibling .ensures) (c .before .if2 .left) (c .sibling2 .ensures) ∙ (c .before .before .before .before .before .before .before .before .before .loop .inv))
+    (λ c. further-link _ _ _ _ _ _ (c .before .before .before .before .before .before .before .before .loop-test .taken) (c .before .before .before .before .before .if1 .left) (c .before .before .before .before .sibling .ensures) (c .before .if2 .left) (c .sibling2 .ensures) ∙ (c .before .before .before .before .before .before .before .before .before .loop .inv))
     (λ c κs. search needs)
-    (λ c. (c .no-link .ensures) ∙ sym (ring-spent _ _ _ _ (search needs)) ∙ (c .before .before .loop .inv)))
+    (λ c. (c .no-link .ensures) ∙ sym (no-link-left _ _ _ _ (search needs)) ∙ (c .before .before .loop .inv)))
