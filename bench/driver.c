@@ -62,6 +62,9 @@ static void make(uint16_t begin) { must(boltclover_make(table, begin) == 0, "mak
 /* where the next conflict is: a node with its touch, and the first defect that the table does not name */
 static uint16_t end, end_touch, unnamed;
 
+/* the defects of the table, 0 to one less */
+static int defects;
+
 static int is(const char *name, const char *known)
 {
 	size_t length = strlen(known);
@@ -91,6 +94,7 @@ static void build(const char *name)
 		end = end_touch = n;
 		unnamed = n + 1;
 	}
+	defects = which >= TREE_TABLE ? unnamed : n;
 	if (settled || apart) {
 		boltclover_size written;
 		uint16_t side;
@@ -193,12 +197,14 @@ static void match(void)
 	must(boltclover_virtual_conflict(table, node, touch, 1, 2, out, MOST, &written, &side) == 0, "the virtual conflict is refused");
 }
 
+static unsigned long paired;
+
 static void ask(uint16_t defect)
 {
 	uint16_t kind, partner;
 	uint32_t through, peer_through;
 	must(boltclover_partner(table, defect, &kind, &partner, &through, &peer_through) == 0, "the question for a partner is refused");
-	must(kind != BOLTCLOVER_NOBODY, "a defect has no partner");
+	paired += kind != BOLTCLOVER_PARTNER_NOBODY;
 }
 
 static void ask_deepest(void) { ask(0); }
@@ -260,10 +266,12 @@ int main(int argc, char **argv)
 	} else if (strcmp(argv[1], "partner") == 0) {
 		must(argc == 5, "a table, a defect or `all`, and a number");
 		build(argv[2]);
-		int all = strcmp(argv[3], "all") == 0, first = all ? 0 : atoi(argv[3]), last = all ? unnamed - 1 : first;
+		int all = strcmp(argv[3], "all") == 0, first = all ? 0 : atoi(argv[3]), last = all ? defects - 1 : first;
+		must(all || strspn(argv[3], "0123456789") == strlen(argv[3]), "a defect is a number");
 		for (int i = 0; i < times; i++)
 			for (int defect = first; defect <= last; defect++)
 				ask(defect);
+		printf("paired %lu\n", paired);
 	} else if (strcmp(argv[1], "conflict") == 0 || strcmp(argv[1], "before") == 0) {
 		must(argc == 5, "a table, a kind of conflict and a number");
 		build(argv[2]);

@@ -17,7 +17,7 @@
  * What a call changes. An accepted call changes the table, *written, *side and the first *written bytes of out; later bytes of out
  * stay as they were. A refused call changes nothing but *written, which it sets to 0, and *side: the table and every byte of out stay
  * as they were. *side is set at every return. The question for a partner changes *kind, *partner, *through and *peer_through alone, and
- * sets all four at every return. The old contents of what the last pointers of a call point to are never read.
+ * sets all four at every return. The old contents of these four and of *written, *side, *stop, *handled and *unread are never read.
  *
  * What is asked of the caller. Of the values nothing: every table, number, tape and length may be passed, and every call ends.
  * A table that was not made, or that something else wrote into, is found out by each call and refused (number 1).
@@ -85,11 +85,11 @@ enum {
     BOLTCLOVER_SIDE_2 = 2
 };
 
-/* What a defect is paired with. */
+/* The kind of a partner. */
 enum {
-    BOLTCLOVER_NOBODY = 0,
-    BOLTCLOVER_A_DEFECT = 1,
-    BOLTCLOVER_A_VIRTUAL_VERTEX = 2
+    BOLTCLOVER_PARTNER_NOBODY = 0,
+    BOLTCLOVER_PARTNER_DEFECT = 1,
+    BOLTCLOVER_PARTNER_VIRTUAL = 2
 };
 
 /* Why a run stopped. The first that applies, asked before each record. */
@@ -128,8 +128,9 @@ uint16_t boltclover_expand(uint16_t *table, uint16_t node, uint8_t *out, boltclo
 uint16_t boltclover_list(const uint16_t *table, uint8_t *out, boltclover_size room, boltclover_size *written);
 
 /* Whom a present defect is paired with: what the listing says of it, with no list written. *kind is one of the three above; *partner is
-   the other defect, and *through and *peer_through are the vertices on the defect's own and on the other side, the last of them the
-   virtual vertex where there is one. What does not apply is none: BOLTCLOVER_NO_NODE, BOLTCLOVER_NO_VERTEX; all of it is after a refusal.
+   the other defect; *through is the vertex on the defect's own side and *peer_through the one on the other side, or the virtual vertex
+   where there is one. What does not apply is none: BOLTCLOVER_NO_NODE, BOLTCLOVER_NO_VERTEX. After a refusal *kind is
+   BOLTCLOVER_PARTNER_NOBODY and the other three are none.
    0, or 1, then 3 for a number that is no present defect: a blossom, an empty slot, 256 or more. */
 uint16_t boltclover_partner(const uint16_t *table, uint16_t defect, uint16_t *kind, uint16_t *partner, uint32_t *through, uint32_t *peer_through);
 

@@ -108,7 +108,7 @@ static void stored_tape(const char *begin, const char *name) {
     if (wanted != (size_t)-1) put('A', 1), put(wanted, 4), put_bytes(answers, wanted);
 }
 
-/* ---- the deepest tables (deep.h): checked, matched by a virtual conflict, and listed, by single calls and in runs */
+/* ---- the deepest tables (deep.h): checked, matched by a virtual conflict, listed, by single calls and in runs, and asked for partners */
 
 static void meet(uint16_t a, uint16_t b, uint16_t touch_a, uint16_t touch_b) {
     Request r = {CONFLICT, a, b, touch_a, touch_b, 1000u + touch_a, 1000u + touch_b};

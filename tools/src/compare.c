@@ -139,10 +139,12 @@ static void measure(const View *t, const Request *r, Row row, const View *after)
     }
 }
 
-/* A table that a request left, or a damaged one: every defect's partner is the one that the listing names. */
-static void try_partners(const uint16_t *words, const View *t, uint32_t another) {
-    long wrong = wrong_partner(words, t, another, &counts.partners);
-    if (wrong >= 0 && difference("the partner of a defect", shot_number, step_number, NULL)) printf("  asked for %ld\n", wrong);
+/* What the questions for partners came to (partners.h). */
+static void hold_partners(long wrong) {
+    if (wrong == ALL_RIGHT) return;
+    if (!difference("the partner of a defect", shot_number, step_number, NULL)) return;
+    if (wrong >= 0) printf("  asked for %ld\n", wrong);
+    else printf("  %s\n", wrong == TABLE_CHANGED ? "the table was changed" : wrong == BAD_LISTING ? "the listing names another number, or one twice" : "a nest could not be matched");
 }
 
 /* One request: number and side against the second reading, a refusal's bytes and table against those before, an accepted one's
@@ -172,7 +174,7 @@ static int try_request(const char *original, uint16_t *words, const Request *r, 
     measure(&before, r, row, &after);
     if (is_sound(&after) && boltclover_sound(words)) counts.kept_sound++;
     else difference("a sound table did not stay sound", shot_number, step_number, r);
-    try_partners(words, &after, r->node_1);
+    hold_partners(wrong_partner(words, &after, r->node_1, &counts.partners));
     compare_with(original, &before, r, out, *written, &after);
     return 1;
 }
@@ -194,7 +196,7 @@ static void try_damage(const char *original, Shot *shot, const uint16_t *words) 
     int broken = broken_rule(&t), sound = !broken;
     if (boltclover_sound(hurt) != sound) difference(sound ? "sound to the second reading alone" : "sound to the port alone", shot_number, step_number, NULL);
     counts.damaged++, counts.broken[broken]++;
-    try_partners(hurt, &t, r.node_1);
+    hold_partners(wrong_partner(hurt, &t, r.node_1, &counts.partners));
     try_request(original, hurt, &r, chance(&shot->dice, 1, 8) ? roll(&shot->dice, 4096) : ROOM, out, &written);
     if (sound) return;
     uint8_t tape[] = {2, 0, 5, 0};
@@ -206,12 +208,13 @@ static void try_damage(const char *original, Shot *shot, const uint16_t *words) 
         difference("a run on a damaged table", shot_number, step_number, NULL);
 }
 
-/* ---- nests, sound and bent: the check alone, which other requests only start with */
+/* ---- nests: matched, and every defect's partner asked for; sound and bent, for the check alone, which other requests only start with */
 
 static void try_nest(Shot *shot, uint32_t depth) {
     static View t;
     uint16_t words[WORDS], bent[WORDS], kept[WORDS];
     if (!build_nest(&shot->dice, words, depth)) difference("a nest is refused", shot_number, 0, NULL);
+    hold_partners(wrong_in_nest(shot->dice, words, depth, &counts.partners));
     for (int i = 0; i < 24; i++) {
         memcpy(bent, words, sizeof bent);
         if (i) bend_nest(shot, bent, depth);
@@ -219,7 +222,6 @@ static void try_nest(Shot *shot, uint32_t depth) {
         read_view(&t, bent);
         int broken = broken_rule(&t);
         counts.nests++, counts.nests_broken[broken]++;
-        try_partners(bent, &t, i);
         if (boltclover_sound(bent) != !broken || memcmp(kept, bent, sizeof kept) || (!i && broken))
             difference(broken ? "a nest sound to the port alone" : "a nest sound to the second reading alone", shot_number, i, NULL);
     }

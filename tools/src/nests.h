@@ -1,4 +1,4 @@
-/* Tables of blossoms in blossoms, as deep as they go, and nests that are bent: for the soundness check. */
+/* Tables of blossoms in blossoms, as deep as they go, and nests that are bent: for the soundness check and for partners. */
 #ifndef NESTS_H
 #define NESTS_H
 

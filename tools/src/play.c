@@ -1,5 +1,6 @@
 /* Plays a batch (batch.c) on the library that it is linked with: play <BATCH >WHAT-HAPPENED 2>STACK
-   Each call gives a line: what was called, the number given back and its side, the bytes written, the words of the table that changed.
+   Each call gives a line: what was called, the number given back and its side, the bytes written, or what a partner is, and the words of the
+   table that changed.
    All bytes and words are in it, the first of them as they are and all of them in a sum; so two libraries that do the same give the same
    lines. Bytes lie at any address, the table at one that is aligned by 2 and no more. */
 #include "machine.h"

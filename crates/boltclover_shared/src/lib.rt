@@ -12,7 +12,8 @@ const STATUS_FILENO: i32 = 3;
 pub enum Ending {
     // 0.
     Well,
-    // 1: the tape or the text is bad or was cut, or output could not be written. It was said on standard error.
+    // 1: the tape or the text is bad or was cut, or output could not be written, which was said on standard error; or a defect that was
+    // asked about is none, which was printed.
     Badly,
     // 2: a bad argument.
     Misused,

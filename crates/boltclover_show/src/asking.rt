@@ -9,7 +9,6 @@ use refusal::Side;
 use slot::Node;
 use table::Table;
 use text::reasons;
-use text_decimals::write_bytes;
 
 // An answer record in words.
 fn write_record(lines: &mut [u8], pos: usize, answer: Record) -> usize {
@@ -19,11 +18,6 @@ fn write_record(lines: &mut [u8], pos: usize, answer: Record) -> usize {
         Answer::Done(written) => print::write_lines(lines, pos, out, written),
         Answer::Refused(_, _) => pos,
     }
-}
-
-fn write_nobody(lines: &mut [u8], pos: usize, d: Node) -> usize {
-    let p = text::write_named(lines, pos, b"  pair ", d.0 as u64);
-    write_bytes(lines, p, b" nobody\n")
 }
 
 // What stands at a number that is no present defect.
@@ -48,7 +42,7 @@ fn write_refusal(lines: &mut [u8], pos: usize, t: &Table, d: Node, refusal: Refu
 
 fn write_partner(lines: &mut [u8], pos: usize, t: &Table, d: Node, answer: Partner) -> usize {
     match answer {
-        Partner::Nobody => write_nobody(lines, pos, d),
+        Partner::Nobody => text::partner::write_nobody(lines, pos, d.0),
         Partner::Defect(pair) => write_record(lines, pos, Record::Pair(pair)),
         Partner::Virtual(pair) => write_record(lines, pos, Record::VirtualPair(pair)),
         Partner::Refused(refusal) => write_refusal(lines, pos, t, d, refusal),
@@ -68,10 +62,9 @@ fn is_refused(answer: Partner) -> bool {
 fn ask(t: &Table, d: Node) -> bool {
     let mut space = io::buffer();
     let lines: &mut [u8] = &mut space;
-    let p = text::write_named(lines, 0, b"partner ", d.0 as u64);
-    let q = write_bytes(lines, p, b"\n");
+    let p = text::partner::write_question(lines, 0, d.0);
     let answer = primal::partner(t, d);
-    let n = write_partner(lines, q, t, d, answer);
+    let n = write_partner(lines, p, t, d, answer);
     if !boltclover_shared::write_first(lines, n) {
         return false;
     }

@@ -7,11 +7,11 @@ use Rattle.outcome.specs.declared.partner.Partner.{Partner}
 use Rattle.outcome.specs.declared.partner.Partner.the-variants as P
 
 -- 0, or the refusal's number
-abbrev pub partnerNumber : Partner → ℕ
-partnerNumber P.Nobody = 0
-partnerNumber (P.Defect p) = 0
-partnerNumber (P.Virtual p) = 0
-partnerNumber (P.Refused n) = numberOf n
+abbrev pub partnerRefusal : Partner → ℕ
+partnerRefusal P.Nobody = 0
+partnerRefusal (P.Defect p) = 0
+partnerRefusal (P.Virtual p) = 0
+partnerRefusal (P.Refused n) = numberOf n
 
 -- 0 nobody, 1 a defect, 2 a virtual vertex
 abbrev pub partnerKind : Partner → ℕ
@@ -41,7 +41,7 @@ partnerPeerThrough (P.Refused n) = noVertex
 
 abbrev pub ToldPartner : Partner → ℕ → ℕ → ℕ → ℕ → ℕ → Type 0
 ToldPartner a number kind partner through peerThrough =
-    (number ≡ partnerNumber a)
+    (number ≡ partnerRefusal a)
     × (kind ≡ partnerKind a)
     × (partner ≡ partnerNode a)
     × (through ≡ partnerThrough a)

@@ -13,10 +13,9 @@ use Rattle.table.specs.Climb.{outerBlossom}
 use Rattle.refusal.specs.declared.Refusal.the-variants.{NoSuchNode}
 use Rattle.record.specs.declared.answer.Pair.{Pair}
 use Rattle.record.specs.declared.answer.VirtualPair.{VirtualPair}
-use Rattle.record.specs.declared.answer.Record.the-variants as R
 use Rattle.rules.specs.Slots.{isStay}
 use Rattle.rules.specs.Sound.{sound}
-use Rattle.rules.specs.Listing.{pairOf, virtualPairOf, pairEntry, virtualEntry}
+use Rattle.rules.specs.Listing.{pairOf, virtualPairOf}
 use Rattle.outcome.specs.declared.partner.Partner.{Partner}
 use Rattle.outcome.specs.declared.partner.Partner.the-variants as P
 use Rattle.outcome.specs.Partner.{partnerBy, laterPartner}
@@ -28,11 +27,11 @@ module _ (l : Link) where
   pub by-nobody : l .touch ≡ none → P.Nobody ≡ partnerBy l
   by-nobody e = rw (eq-eqb (l .touch) none e)
 
-  pub by-virtual : (p : VirtualPair) → (l .touch ≡ none → ⊥) → l .peerTouch ≡ none → R.VirtualPair p ≡ virtualEntry l → P.Virtual p ≡ partnerBy l
-  by-virtual p d e q = let s : p ≡ virtualPairOf l = cc in rw (ne-eqb (l .touch) none d, eq-eqb (l .peerTouch) none e, s)
+  pub by-virtual : (p : VirtualPair) → (l .touch ≡ none → ⊥) → l .peerTouch ≡ none → p ≡ virtualPairOf l → P.Virtual p ≡ partnerBy l
+  by-virtual p d e q = rw (ne-eqb (l .touch) none d, eq-eqb (l .peerTouch) none e, q)
 
-  pub by-defect : (p : Pair) → (l .touch ≡ none → ⊥) → (l .peerTouch ≡ none → ⊥) → R.Pair p ≡ pairEntry l → P.Defect p ≡ partnerBy l
-  by-defect p d e q = let s : p ≡ pairOf l = cc in rw (ne-eqb (l .touch) none d, ne-eqb (l .peerTouch) none e, s)
+  pub by-defect : (p : Pair) → (l .touch ≡ none → ⊥) → (l .peerTouch ≡ none → ⊥) → p ≡ pairOf l → P.Defect p ≡ partnerBy l
+  by-defect p d e q = rw (ne-eqb (l .touch) none d, ne-eqb (l .peerTouch) none e, q)
 
 module _ (t : Table) (d : ℕ) where
   module _ (h : ℕ) (s : State) (home : h ≡ outerBlossom t d) (p : s ≡ at t h .state) where

@@ -15,6 +15,7 @@ unfoldable pub noted : ℕ → Table → ℕ → List ℕ → List ℕ
 noted zero t n w = w
 noted (suc k) t n w = let above = noted k t (up t n) (set w (up t n) n) in pick (inner t n) above w
 
+-- (past the last slot every number reads as noted; no climb on a sound table comes there)
 abbrev pub isNoted : List ℕ → ℕ → Bool
 isNoted w n = not (eqb (getD w n 0) none)
 

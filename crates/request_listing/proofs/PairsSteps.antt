@@ -9,11 +9,13 @@ use Rattle.lists.proofs.Budget.{fewer}
 use Rattle.slot.specs.Slot.{Link}
 use Rattle.table.specs.Table.{Table, at}
 use Rattle.table.specs.Nodes.{isBlossom, outer}
+use Rattle.record.specs.declared.answer.Pair.{Pair}
+use Rattle.record.specs.declared.answer.Record.the-variants as R
 use Rattle.record.specs.declared.answer.Record.{Record}
 use Rattle.record.specs.Records.{answerBytes}
 use Rattle.record.specs.Writing.{Out, written, writeAll}
 use Rattle.rules.specs.Act.{choose}
-use Rattle.rules.specs.Listing.{pairEntry, pairListed, levelsListed, ringListed, nothing}
+use Rattle.rules.specs.Listing.{pairOf, pairListed, levelsListed, ringListed, nothing}
 use Rattle.record.proofs.Written.{writeAll-append}
 use Rattle.rules.proofs.Runs.{choose-yes, choose-no}
 use Rattle.request_listing.specs.Inside.{insideListed}
@@ -47,12 +49,12 @@ module _ (t : Table) (o : Out) where
   pair-spent k n peer l e = rw (e, nothing-written)
 
   pub pair-step :
-      (k n peer : ℕ) (l : Link) (o₁ o₂ o₃ : Out) (r : Record)
+      (k n peer : ℕ) (l : Link) (o₁ o₂ o₃ : Out) (r : Pair)
       → (k ≡ 0 → ⊥)
       → o₁ ≡ writeAll o (insideListed (k - 1) n (l .touch) t)
       → o₂ ≡ writeAll o₁ (insideListed (k - 1) peer (l .peerTouch) t)
-      → r ≡ pairEntry l
-      → o₃ ≡ written o₂ (answerBytes r)
+      → r ≡ pairOf l
+      → o₃ ≡ written o₂ (answerBytes (R.Pair r))
       → o₃ ≡ writeAll o (pairListed k n peer l t)
   unfolding pairListed insideListed
   pair-step zero n peer l o₁ o₂ o₃ r h p q s e = absurd (h refl)

@@ -11,11 +11,12 @@ use Rattle.table.specs.Nodes.{outer}
 use Rattle.table.specs.declared.place.Place.{Place}
 use Rattle.table.specs.declared.place.Place.the-variants.{Paired, Virtual}
 use Rattle.table.specs.Place.{place}
-use Rattle.record.specs.declared.answer.Record.{Record}
+use Rattle.record.specs.declared.answer.VirtualPair.{VirtualPair}
+use Rattle.record.specs.declared.answer.Record.the-variants as R
 use Rattle.record.specs.Records.{answerBytes}
 use Rattle.record.specs.Writing.{Out, written, writeAll}
 use Rattle.rules.specs.Act.{choose}
-use Rattle.rules.specs.Listing.{virtualEntry, pairListed, matchedListed, slotListed}
+use Rattle.rules.specs.Listing.{virtualPairOf, pairListed, matchedListed, slotListed}
 use Rattle.record.proofs.Written.{writeAll-append}
 use Rattle.request_listing.specs.Inside.{insideListed}
 use Rattle.request_listing.proofs.PairsSteps.{nothing-written, one-written}
@@ -35,11 +36,11 @@ module _ (t : Table) (o : Out) (n : ℕ) where
   paired-larger peer h = rw (le-ltb n (peer .0) h, nothing-written)
 
   pub virtual-step :
-      (l : Link) (o₁ o₂ : Out) (r : Record)
+      (l : Link) (o₁ o₂ : Out) (r : VirtualPair)
       → l ≡ at t n .link
       → o₁ ≡ writeAll o (insideListed 256 n (l .touch) t)
-      → r ≡ virtualEntry l
-      → o₂ ≡ written o₁ (answerBytes r)
+      → r ≡ virtualPairOf l
+      → o₂ ≡ written o₁ (answerBytes (R.VirtualPair r))
       → o₂ ≡ writeAll o (matchedListed Virtual n (at t n) t)
   unfolding insideListed
   virtual-step l o₁ o₂ r e p s q =

@@ -8,14 +8,13 @@ use table::field;
 ghost use mathlib.Core.Path.{_≡_};
 ghost use Rattle.slot.specs.Slot.{linkOf};
 ghost use Rattle.table.specs.Words.{tableOf};
-ghost use Rattle.record.specs.declared.answer.Record.the-variants as R;
 ghost use Rattle.record.specs.Writing.{outOf, writeAll};
-ghost use Rattle.rules.specs.Listing.{pairEntry, pairListed, levelsListed, ringListed};
+ghost use Rattle.rules.specs.Listing.{pairOf, pairListed, levelsListed, ringListed};
 ghost use Rattle.request_listing.specs.Inside.{insideListed};
 
 // An entry's record: the touched defects, with their through numbers.
 pub fn pair_entry(link: Link) -> Pair
-    ensures { λ r. ⌜ R.Pair r ≡ pairEntry (linkOf link) ⌝ }
+    ensures { λ r. ⌜ r ≡ pairOf (linkOf link) ⌝ }
 {
     let node = link.touch;
     let peer = link.peer_touch;

@@ -10,13 +10,12 @@ ghost use Rattle.slot.specs.Slot.{linkOf};
 ghost use Rattle.table.specs.Table.{at};
 ghost use Rattle.table.specs.Words.{tableOf};
 ghost use Rattle.table.specs.declared.place.Place.the-variants.{Paired, Virtual};
-ghost use Rattle.record.specs.declared.answer.Record.the-variants as R;
 ghost use Rattle.record.specs.Writing.{outOf, writeAll};
-ghost use Rattle.rules.specs.Listing.{virtualEntry, matchedListed, slotListed};
+ghost use Rattle.rules.specs.Listing.{virtualPairOf, matchedListed, slotListed};
 
 // The record of a node matched to a virtual vertex.
 pub fn virtual_entry(link: Link) -> VirtualPair
-    ensures { λ r. ⌜ R.VirtualPair r ≡ virtualEntry (linkOf link) ⌝ }
+    ensures { λ r. ⌜ r ≡ virtualPairOf (linkOf link) ⌝ }
 {
     let node = link.touch;
     let through = link.through;

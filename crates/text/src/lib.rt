@@ -3,6 +3,7 @@ mod faults;
 mod fields;
 mod forms;
 pub mod line;
+pub mod partner;
 mod pieces;
 pub mod reasons;
 mod words;

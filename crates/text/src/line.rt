@@ -5,6 +5,8 @@ use crate::fields::put;
 use crate::fields::size;
 use crate::forms;
 use crate::forms::FORMS;
+use crate::partner::NOBODY;
+use crate::partner::QUESTION;
 use crate::pieces::nth;
 use crate::words::is_blank;
 use crate::words::same_word;
@@ -14,7 +16,7 @@ use text_decimals::Number;
 
 // What a line says.
 pub enum Line {
-    // Nothing to read here: an empty line, a comment, an answer, or the heading of the listing.
+    // Nothing to read here: an empty line, a comment, an answer, the heading of the listing, or a question for a partner.
     Passed,
     // A request, whose record fills so many bytes.
     Request(usize),
@@ -134,6 +136,9 @@ fn is_indented_answer(line: &[u8], first: &[u8]) -> bool {
     if same_word(first, b"refused") {
         return true;
     }
+    if has_form(line, &NOBODY) {
+        return true;
+    }
     is_answer(line, forms::END)
 }
 
@@ -145,6 +150,9 @@ fn is_passed(line: &[u8], first: &[u8]) -> bool {
         return true;
     }
     if has_form(line, b"listing") {
+        return true;
+    }
+    if has_form(line, &QUESTION) {
         return true;
     }
     is_indented_answer(line, first)

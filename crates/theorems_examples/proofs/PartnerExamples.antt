@@ -19,7 +19,7 @@ use Rattle.outcome.specs.declared.partner.Partner.{Partner}
 use Rattle.outcome.specs.declared.partner.Partner.the-variants as P
 use Rattle.outcome.specs.Handled.{laterVerdict}
 use Rattle.outcome.specs.Partner.{partnerOf}
-use Rattle.theorems_partner.specs.Told.{told}
+use Rattle.theorems_partner.specs.Said.{saidOf}
 use Rattle.theorems_examples.proofs.InTurn.{acceptedLater, played}
 
 -- a with b, a through v and b through w
@@ -38,7 +38,7 @@ matched-blossom = free-blossom ++ border 128 0 30 99 ∷ []
 
 -- opens every definition of the question
 unfoldable asking : Unit {0}
-unfolding ringNode ringLink linkBeside linkInside entryWithin told with with-virtual free-blossom matched-blossom
+unfolding ringNode ringLink linkBeside linkInside entryWithin saidOf with with-virtual free-blossom matched-blossom
 asking = tt
 
 -- (e): 1 with 2, seen from either with the through numbers exchanged, and 0 with the virtual vertex 99
@@ -49,16 +49,16 @@ unfolding all-rules asking
 asked-in-e = (refl, refl, refl)
 
 -- .. which the listing says too
-told-in-e :
+said-in-e :
     let t = after matched-blossom (fresh 128) in
-    (told 1 (listing t) ≡ with 1 2 11 12) × (told 2 (listing t) ≡ with 2 1 12 11) × (told 0 (listing t) ≡ with-virtual 0 30 99)
+    (saidOf 1 (listing t) ≡ with 1 2 11 12) × (saidOf 2 (listing t) ≡ with 2 1 12 11) × (saidOf 0 (listing t) ≡ with-virtual 0 30 99)
 unfolding all-rules asking
-told-in-e = (refl, refl, refl)
+said-in-e = (refl, refl, refl)
 
 -- (c): the blossom is free
 asked-in-c :
     let t = after free-blossom (fresh 128) in
-    (partnerOf t 0 ≡ P.Nobody) × (partnerOf t 1 ≡ P.Nobody) × (partnerOf t 2 ≡ P.Nobody) × (told 1 (listing t) ≡ P.Nobody)
+    (partnerOf t 0 ≡ P.Nobody) × (partnerOf t 1 ≡ P.Nobody) × (partnerOf t 2 ≡ P.Nobody) × (saidOf 1 (listing t) ≡ P.Nobody)
 unfolding all-rules asking
 asked-in-c = (refl, refl, refl, refl)
 

@@ -25,14 +25,15 @@ use Rattle.rules.specs.Refusals.{_when_, firstOf}
 use Rattle.outcome.specs.declared.partner.Partner.{Partner}
 use Rattle.outcome.specs.declared.partner.Partner.the-variants as P
 use Rattle.outcome.specs.Partner.{partnerBy, unlessRefused, partnerOf}
-use Rattle.outcome.specs.PartnerInNumbers.{partnerNumber, partnerKind}
+use Rattle.outcome.specs.PartnerInNumbers.{partnerRefusal, partnerKind}
 use Rattle.theorems_requests.specs.Named.{namedIn, times, isListed, Entry, Each}
-use Rattle.theorems_partner.specs.Told.{turned, told}
+use Rattle.theorems_partner.specs.Said.{turned, saidOf}
 use Rattle.theorems_soundness.proofs.Reflect.{and→, pick-no, test-true, test-case, eqb-no, not-eqb↔}
 use Rattle.theorems_soundness.proofs.ReflectSlots.{stay↔}
 use Rattle.theorems_soundness.proofs.SoundFacts.{sound→facts}
 use Rattle.theorems_requests.proofs.EachEventOnce.{listed-once, entries-are-links}
-use Rattle.theorems_partner.proofs.ToldLaws.{Among, EntryOf, first, second, virtual, told-nobody, entry-names, entry-told}
+use Rattle.theorems_partner.proofs.SaidLaws.{Among, EntryOf, first, second, virtual, said-nobody, entry-names, entry-said}
+use Rattle.theorems_partner.proofs.EntryTouches.{defect-some}
 use Rattle.theorems_partner.proofs.EntriesListed.{Listed}
 use Rattle.theorems_partner.proofs.SlotEntries.{matched-listed, unmatched-nobody}
 
@@ -67,8 +68,8 @@ module _ (t : Table) (full : Full t) (s : T (sound t)) where
     parts : T (isDefect t d) × T (present t d)
     parts = and→ (isDefect t d) (present t d) h
 
-    pub defect-some : d ≢ none
-    defect-some e = omega (arith, ltb→lt d (t .begin) (parts .0), sound→facts t full s .rest .sizes .begin-fits)
+    asked-some : d ≢ none
+    asked-some = defect-some t full (sound→facts t full s .rest) d (ltb→lt d (t .begin) (parts .0))
 
     -- listed, by the entry of its own link; or nobody, and no entry names it
     pub listed-or-nobody : Listed t d (listing t) ⊎ ((entry t d ≡ noLink) × (times d (namedIn (listing t)) ≡ 0))
@@ -89,24 +90,24 @@ module _ (t : Table) (full : Full t) (s : T (sound t)) where
     pub own-touch : entry t d .touch ≢ none → entry t d .touch ≡ d
     own-touch e = elim listed-or-nobody [ inl y ↦ y .own | inr n ↦ absurd (e (ap (λ (k : Link). k .touch) (n .0))) ]
 
-    entry-as-told : partnerBy (entry t d) ≡ told d (listing t)
-    entry-as-told =
+    entry-as-said : partnerBy (entry t d) ≡ saidOf d (listing t)
+    entry-as-said =
         elim listed-or-nobody [
-          | inl y ↦ sym (entry-told d (entry t d) (y .own) defect-some (y .said) (listing t) (y .entry-of) (y .among) (named-once d))
-          | inr n ↦ ap partnerBy (n .0) ∙ sym (told-nobody d (listing t) (n .1))
+          | inl y ↦ sym (entry-said d (entry t d) (y .own) asked-some (y .said) (listing t) (y .entry-of) (y .among) (named-once d))
+          | inr n ↦ ap partnerBy (n .0) ∙ sym (said-nobody d (listing t) (n .1))
         ]
 
     accepted : partnerOf t d ≡ partnerBy (entry t d)
     accepted = rw (test-true (sound t) s, test-true (isPresentDefect t d) h)
 
-    pub answered-as-listed : partnerOf t d ≡ told d (listing t)
-    answered-as-listed = accepted ∙ entry-as-told
+    pub answered-as-listed : partnerOf t d ≡ saidOf d (listing t)
+    answered-as-listed = accepted ∙ entry-as-said
 
     pub nobody-unnamed : (partnerOf t d ≡ P.Nobody) ↔ (times d (namedIn (listing t)) ≡ 0)
-    nobody-unnamed = (λ e. go e listed-or-nobody, λ z. answered-as-listed ∙ told-nobody d (listing t) z)
+    nobody-unnamed = (λ e. go e listed-or-nobody, λ z. answered-as-listed ∙ said-nobody d (listing t) z)
       where
         go : partnerOf t d ≡ P.Nobody → Listed t d (listing t) ⊎ ((entry t d ≡ noLink) × (times d (namedIn (listing t)) ≡ 0)) → times d (namedIn (listing t)) ≡ 0
-        go e (inl y) = absurd (somebody (entry t d) (λ z. defect-some (sym (y .own) ∙ z)) (sym accepted ∙ e))
+        go e (inl y) = absurd (somebody (entry t d) (λ z. asked-some (sym (y .own) ∙ z)) (sym accepted ∙ e))
         go e (inr n) = n .1
 
   -- ---- the partner
@@ -118,7 +119,7 @@ module _ (t : Table) (full : Full t) (s : T (sound t)) where
         let r = other-end l (y .said) some peer-some (y .entry-of) in
         let there = among-each (Entry t) (y .said) (listing t) (entries-are-links t full s) (y .among) .names (l .peerTouch) (entry-names (l .peerTouch) (mirror l) refl (y .said) r) in
         answered-as-listed (l .peerTouch) there
-        ∙ entry-told (l .peerTouch) (mirror l) refl peer-some (y .said) (listing t) r (y .among) (named-once (l .peerTouch))
+        ∙ entry-said (l .peerTouch) (mirror l) refl peer-some (y .said) (listing t) r (y .among) (named-once (l .peerTouch))
         ∙ rw (eqb-no (l .peerTouch) none peer-some, eqb-no (l .touch) none some)
 
     pub partner-back : partnerOf t (entry t d .peerTouch) ≡ P.Defect (turned (pairOf (entry t d)))
@@ -126,20 +127,20 @@ module _ (t : Table) (full : Full t) (s : T (sound t)) where
 
 -- ---- what an answer tells of the checks and of the link
 
-accepted-as : (s h : Bool) (a b : Partner) → unlessRefused (firstOf (NotSound when not s ∷ NoSuchNode when not h ∷ [])) a ≡ b → partnerNumber b ≡ 0 → T s × T h × (a ≡ b)
-accepted-as false h a b e z = absurd (omega (arith, ap partnerNumber e))
-accepted-as true false a b e z = absurd (omega (arith, ap partnerNumber e))
+accepted-as : (s h : Bool) (a b : Partner) → unlessRefused (firstOf (NotSound when not s ∷ NoSuchNode when not h ∷ [])) a ≡ b → partnerRefusal b ≡ 0 → T s × T h × (a ≡ b)
+accepted-as false h a b e z = absurd (omega (arith, ap partnerRefusal e))
+accepted-as true false a b e z = absurd (omega (arith, ap partnerRefusal e))
 accepted-as true true a b e z = (tt, tt, e)
 
-by-defect : (n v : Bool) (x : VirtualPair) (y p : Pair) → pick n P.Nobody (pick v (P.Virtual x) (P.Defect y)) ≡ P.Defect p → T (not n) × T (not v) × (y ≡ p)
-by-defect true v x y p e = absurd (omega (arith, ap partnerKind e))
-by-defect false true x y p e = absurd (omega (arith, ap partnerKind e))
-by-defect false false x y p e = (tt, tt, cc)
+link-of-defect : (n v : Bool) (x : VirtualPair) (y p : Pair) → pick n P.Nobody (pick v (P.Virtual x) (P.Defect y)) ≡ P.Defect p → T (not n) × T (not v) × (y ≡ p)
+link-of-defect true v x y p e = absurd (omega (arith, ap partnerKind e))
+link-of-defect false true x y p e = absurd (omega (arith, ap partnerKind e))
+link-of-defect false false x y p e = (tt, tt, cc)
 
-by-virtual : (n v : Bool) (x p : VirtualPair) (y : Pair) → pick n P.Nobody (pick v (P.Virtual x) (P.Defect y)) ≡ P.Virtual p → T (not n) × (x ≡ p)
-by-virtual true v x p y e = absurd (omega (arith, ap partnerKind e))
-by-virtual false true x p y e = (tt, cc)
-by-virtual false false x p y e = absurd (omega (arith, ap partnerKind e))
+link-of-virtual : (n v : Bool) (x p : VirtualPair) (y : Pair) → pick n P.Nobody (pick v (P.Virtual x) (P.Defect y)) ≡ P.Virtual p → T (not n) × (x ≡ p)
+link-of-virtual true v x p y e = absurd (omega (arith, ap partnerKind e))
+link-of-virtual false true x p y e = (tt, cc)
+link-of-virtual false false x p y e = absurd (omega (arith, ap partnerKind e))
 
 module _ (t : Table) (full : Full t) (d : ℕ) where
   some-touch : T (not (isNone (entry t d .touch))) → entry t d .touch ≢ none
@@ -150,16 +151,19 @@ module _ (t : Table) (full : Full t) (d : ℕ) where
     checked = accepted-as (sound t) (isPresentDefect t d) (partnerBy (entry t d)) (P.Defect p) e refl
 
     paired : T (not (isNone (entry t d .touch))) × T (not (isNone (entry t d .peerTouch))) × (pairOf (entry t d) ≡ p)
-    paired = by-defect (isNone (entry t d .touch)) (isNone (entry t d .peerTouch)) _ _ p (checked .2)
+    paired = link-of-defect (isNone (entry t d .touch)) (isNone (entry t d .peerTouch)) _ _ p (checked .2)
 
     pub defect-asked : p .node ≡ nodeOf d
     defect-asked = ap (λ (q : Pair). q .node) (sym (paired .2)) ∙ ap nodeOf (own-touch t full (checked .0) d (checked .1) (some-touch (paired .0)))
 
-    pub defect-back : partnerOf t (p .peer .0) ≡ P.Defect (turned p)
-    defect-back = rw (sym (paired .2)) (partner-back t full (checked .0) d (checked .1) (some-touch (paired .0)) (not-eqb↔ (entry t d .peerTouch) none .0 (paired .1)))
+    answered-back : partnerOf t (p .peer .0) ≡ P.Defect (turned p)
+    answered-back = rw (sym (paired .2)) (partner-back t full (checked .0) d (checked .1) (some-touch (paired .0)) (not-eqb↔ (entry t d .peerTouch) none .0 (paired .1)))
+
+    pub defect-back : (partnerOf t (p .peer .0) ≡ P.Defect (turned p)) × (turned p .peer ≡ nodeOf d)
+    defect-back = (answered-back, defect-asked)
 
   pub virtual-asked : (p : VirtualPair) → partnerOf t d ≡ P.Virtual p → p .node ≡ nodeOf d
   virtual-asked p e =
       let checked = accepted-as (sound t) (isPresentDefect t d) (partnerBy (entry t d)) (P.Virtual p) e refl in
-      let paired = by-virtual (isNone (entry t d .touch)) (isNone (entry t d .peerTouch)) _ p _ (checked .2) in
+      let paired = link-of-virtual (isNone (entry t d .touch)) (isNone (entry t d .peerTouch)) _ p _ (checked .2) in
       ap (λ (q : VirtualPair). q .node) (sym (paired .1)) ∙ ap nodeOf (own-touch t full (checked .0) d (checked .1) (some-touch (paired .0)))

@@ -1,37 +1,47 @@
 -- The question for a defect's partner (ticket 3 of 02): `partnerOf` is what the public call promises, for any table and any number.
 -- "It must equal what the full listing would say, for every sound table."
 use mathlib.Core.Path.{_≡_}
-use mathlib.Core.Logic.{_↔_}
-use Prim.Native.Nat.{ℕ, _+_}
+use mathlib.Core.Logic.{_≢_, _↔_}
+use Prim.Native.Nat.{ℕ, _≤_}
 use lib.Dec.{T}
 use Rattle.table.specs.Table.{Table, Full}
-use Rattle.table.specs.Nodes.{isPresentDefect}
+use Rattle.table.specs.Nodes.{isPresentDefect, inner}
 use Rattle.record.specs.declared.answer.Pair.{Pair}
 use Rattle.record.specs.declared.answer.VirtualPair.{VirtualPair}
 use Rattle.rules.specs.Act.{nodeOf}
+use Rattle.rules.specs.Slots.{up, next}
 use Rattle.rules.specs.Sound.{sound}
 use Rattle.rules.specs.Listing.{listing}
-use Rattle.rules.specs.Partner.{entryWithin, entry}
+use Rattle.rules.specs.Partner.{ringNode, ringLink, entryWithin, entry}
 use Rattle.outcome.specs.declared.partner.Partner.the-variants as P
 use Rattle.outcome.specs.Partner.{partnerOf}
+use Rattle.theorems_soundness.specs.FactsOfBlossoms.{InnerChild, Inside}
 use Rattle.theorems_requests.specs.Named.{namedIn, times}
-use Rattle.theorems_partner.specs.Told.{turned, told}
+use Rattle.theorems_partner.specs.Said.{turned, saidOf}
 use Rattle.theorems_partner.proofs.Answering.{answered-as-listed, nobody-unnamed, defect-asked, virtual-asked, defect-back}
-use Rattle.theorems_partner.proofs.EntryLaws.{entry-budget-enough}
+use Rattle.theorems_partner.proofs.Budgets.{entry-same, ring-node-same, ring-link-same}
 
 module _ (t : Table) (full : Full t) where
   module _ (s : T (sound t)) (d : ℕ) (h : T (isPresentDefect t d)) where
     -- the answer is the entry of the listing that names d, seen from d
-    pub as-listed : partnerOf t d ≡ told d (listing t)
+    pub as-listed : partnerOf t d ≡ saidOf d (listing t)
     as-listed = answered-as-listed t full s d h
 
     -- "or that no entry names it": nobody exactly then
     pub nobody-exactly : (partnerOf t d ≡ P.Nobody) ↔ (times d (namedIn (listing t)) ≡ 0)
     nobody-exactly = nobody-unnamed t full s d h
 
-    -- the rule answers the same with every larger budget
-    pub entry-budget : (k : ℕ) → entryWithin (k + 256) d t ≡ entry t d
-    entry-budget k = entry-budget-enough t full s d h k
+    -- no budget is used up: the way up from d answers the same with every larger one
+    pub entry-budget : (k : ℕ) → 256 ≤ k → entryWithin k d t ≡ entry t d
+    entry-budget k = entry-same t full s d h k
+
+  -- .. nor does the climb from a node n inside the blossom b to its ring
+  pub ring-node-budget : T (sound t) → (k b n : ℕ) → 256 ≤ k → Inside t b n → n ≢ b → ringNode k b n t ≡ ringNode 256 b n t
+  ring-node-budget s k b n = ring-node-same t full s k b n
+
+  -- .. nor the way round the ring from the node after y to another, x
+  pub ring-link-budget : T (sound t) → (k x y : ℕ) → 128 ≤ k → T (inner t y) → InnerChild t (up t y) x → x ≢ y → ringLink k x (next t y) t ≡ ringLink 128 x (next t y) t
+  ring-link-budget s k x y = ring-link-same t full s k x y
 
   -- "as seen from the defect asked about": it stands first
   pub asked-first : (d : ℕ) (p : Pair) → partnerOf t d ≡ P.Defect p → p .node ≡ nodeOf d
@@ -41,5 +51,5 @@ module _ (t : Table) (full : Full t) where
   asked-first-virtual d p = virtual-asked t full d p
 
   -- the partner of the partner is the defect asked about, by the same pair seen from its other end
-  pub partner-of-partner : (d : ℕ) (p : Pair) → partnerOf t d ≡ P.Defect p → partnerOf t (p .peer .0) ≡ P.Defect (turned p)
+  pub partner-of-partner : (d : ℕ) (p : Pair) → partnerOf t d ≡ P.Defect p → (partnerOf t (p .peer .0) ≡ P.Defect (turned p)) × (turned p .peer ≡ nodeOf d)
   partner-of-partner d p = defect-back t full d p

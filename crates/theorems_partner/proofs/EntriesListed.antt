@@ -23,7 +23,7 @@ use Rattle.theorems_requests.proofs.InsideCounts.{nodesInside, inside-or-not, d
 use Rattle.theorems_requests.proofs.NestedCalls.{Joined, Within, next-level, defect-within, afterOf, on-every-pair, on-every-node}
 use Rattle.theorems_requests.proofs.ListingLaws.{insideListed, inside-blossom-listed, pair-listed, last-level-listed, level-listed, ring-pair-listed}
 use Rattle.rules.specs.Partner.{entry}
-use Rattle.theorems_partner.proofs.ToldLaws.{Among, among-left, among-right, EntryOf, first, second}
+use Rattle.theorems_partner.proofs.SaidLaws.{Among, among-left, among-right, EntryOf, first, second}
 use Rattle.theorems_partner.proofs.EntryLaws.{Linked}
 use Rattle.theorems_partner.proofs.EntryTouches.{defect-some, same-at-touch, after-linked}
 

@@ -11,19 +11,17 @@ use lib.ListN.{length}
 use Rattle.slot.specs.Number.{none}
 use Rattle.slot.specs.Slot.{Link, noLink, mirror}
 use Rattle.table.specs.Table.{Table, at, Full}
-use Rattle.table.specs.Nodes.{isDefect, present, isPresentDefect, outer, inner}
+use Rattle.table.specs.Nodes.{present, outer, inner}
 use Rattle.table.specs.Climb.{outerBlossom}
 use Rattle.rules.specs.Act.{choose}
 use Rattle.rules.specs.Slots.{up, next}
-use Rattle.rules.specs.Sound.{sound}
 use Rattle.theorems_soundness.specs.Chain.{_∈_, NoDup, Steps}
 use Rattle.theorems_soundness.specs.FactsOfBlossoms.{InnerChild, Inside}
 use Rattle.theorems_soundness.specs.Facts.{Rest}
-use Rattle.theorems_soundness.proofs.Reflect.{and→, test-true, test-false, eqb-yes, eqb-no, same-or-not}
+use Rattle.theorems_soundness.proofs.Reflect.{test-true, test-false, eqb-yes, eqb-no, same-or-not}
 use Rattle.theorems_soundness.proofs.ReflectSlots.{outer-not-inner}
 use Rattle.theorems_soundness.proofs.Past.{outer-below, inner-below}
 use Rattle.theorems_soundness.proofs.Climbing.{steps-grow}
-use Rattle.theorems_soundness.proofs.SoundFacts.{sound→facts}
 use Rattle.theorems_soundness.proofs.RingLaws.{inner-parent-present}
 use Rattle.theorems_soundness.proofs.InsideLaws.{inside-self, one-ring-node, outer-blossom-outer, outer-blossom-holds}
 use Rattle.theorems_requests.proofs.RestOfRing.{Way, TwoByTwo}
@@ -134,7 +132,7 @@ module _ (t : Table) (full : Full t) (rest : Rest t) where
 
   -- ---- the ring node that a node is inside
 
-  ring-node-reached : (j k b y n : ℕ) → Steps (inner t) (up t) j n y → InnerChild t b y → j ≤ k → ringNode k b n t ≡ y
+  pub ring-node-reached : (j k b y n : ℕ) → Steps (inner t) (up t) j n y → InnerChild t b y → j ≤ k → ringNode k b n t ≡ y
   unfolding ringNode choose
   ring-node-reached zero zero b y n p c l = p
   ring-node-reached (suc j) zero b y n p c l = absurd (omega arith)
@@ -163,6 +161,3 @@ module _ (t : Table) (full : Full t) (rest : Rest t) where
 
     pub entry-other : x ≢ y → entry t x ≡ ringLink 128 x (next t y) t
     entry-other d = entry-beside ∙ beside-other t x (entry t (up t x)) y d
-
-pub entry-budget-enough : (t : Table) → Full t → T (sound t) → (d : ℕ) → T (isPresentDefect t d) → (k : ℕ) → entryWithin (k + 256) d t ≡ entry t d
-entry-budget-enough t full s d h k = entry-enough t full (sound→facts t full s .rest) k d (and→ (isDefect t d) (present t d) h .1)

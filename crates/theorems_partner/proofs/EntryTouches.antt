@@ -43,7 +43,7 @@ module _ (t : Table) (full : Full t) (rest : Rest t) where
   -- ---- the ring nodes after d, where the blossom around them is paired at d
 
   module _ (d : ℕ) (i : T (inner t d)) where
-    after-short : length (afterOf t full rest d i) ≤ 256
+    pub after-short : length (afterOf t full rest d i) ≤ 256
     after-short =
         let r = ring-around t full rest d i in
         let few = chain-fits _ 256 _ (r .list) (r .chain) (λ j m. inner-below t full j (r .exact j .0 m .0)) in

@@ -25,7 +25,7 @@ use Rattle.theorems_requests.proofs.InsideCounts.{nodes-fit}
 use Rattle.theorems_requests.proofs.ListingLaws.{insideListed}
 use Rattle.theorems_requests.proofs.SlotsListed.{SlotCase, unlisted, alone, smaller, larger, slot-case, smaller-listed, matched-joined, virtual-touch, matched-fits}
 use Rattle.rules.specs.Partner.{entry}
-use Rattle.theorems_partner.proofs.ToldLaws.{virtual}
+use Rattle.theorems_partner.proofs.SaidLaws.{virtual}
 use Rattle.theorems_partner.proofs.EntryLaws.{inside-nobody, entry-outer, entry-inner}
 use Rattle.theorems_partner.proofs.EntryTouches.{same-at-touch}
 use Rattle.theorems_partner.proofs.EntriesListed.{Listed, listed-left, listed-right, own-entry, pair-lists-all, inside-lists-all}

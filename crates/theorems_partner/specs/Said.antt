@@ -25,6 +25,6 @@ seenFrom d (R.Pair p) = P.Defect (pick (eqb (p .node .0) d) p (turned p))
 seenFrom d (R.VirtualPair p) = P.Virtual p
 
 -- the first entry that names d, "or that no entry names it"; on a sound table no second one does (EachEventOnce)
-unfoldable pub told : ℕ → List Record → Partner
-told d [] = P.Nobody
-told d (r ∷ rs) = let later = told d rs in pick (isIn d (namedBy r)) (seenFrom d r) later
+unfoldable pub saidOf : ℕ → List Record → Partner
+saidOf d [] = P.Nobody
+saidOf d (r ∷ rs) = let later = saidOf d rs in pick (isIn d (namedBy r)) (seenFrom d r) later

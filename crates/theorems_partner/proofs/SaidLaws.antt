@@ -13,7 +13,7 @@ use Rattle.outcome.specs.declared.partner.Partner.the-variants as P
 use Rattle.outcome.specs.Partner.{partnerBy}
 use Rattle.theorems_soundness.specs.Chain.{_∈_}
 use Rattle.theorems_requests.specs.Named.{namedBy, namedIn, times}
-use Rattle.theorems_partner.specs.Told.{seenFrom, told}
+use Rattle.theorems_partner.specs.Said.{seenFrom, saidOf}
 use Rattle.theorems_soundness.proofs.Reflect.{pick-yes, pick-no, isIn↔, eqb-yes, eqb-no}
 use Rattle.theorems_requests.proofs.CountLaws.{one-same, times-append}
 
@@ -44,26 +44,26 @@ module _ (d : ℕ) where
   among-counted r (x ∷ xs) (inr m) = omega (arith, times-append d (namedBy x) (namedIn xs), among-counted r xs m)
 
   -- where an entry does not name d, the rest is asked
-  told-further : (x : Record) (xs : List Record) → times d (namedBy x) ≡ 0 → told d (x ∷ xs) ≡ told d xs
-  unfolding told
-  told-further x xs e = pick-no (isIn d (namedBy x)) (seenFrom d x) (told d xs) (λ h. omega (arith, named-some (namedBy x) (isIn↔ d (namedBy x) .0 h)))
+  said-further : (x : Record) (xs : List Record) → times d (namedBy x) ≡ 0 → saidOf d (x ∷ xs) ≡ saidOf d xs
+  unfolding saidOf
+  said-further x xs e = pick-no (isIn d (namedBy x)) (seenFrom d x) (saidOf d xs) (λ h. omega (arith, named-some (namedBy x) (isIn↔ d (namedBy x) .0 h)))
 
-  pub told-named : (r : Record) (rs : List Record) → Among r rs → d ∈ namedBy r → times d (namedIn rs) ≤ 1 → told d rs ≡ seenFrom d r
-  unfolding told
-  told-named r [] m h l = absurd m
-  told-named r (x ∷ xs) (inl e) h l = rw e (pick-yes (isIn d (namedBy x)) (seenFrom d x) (told d xs) (isIn↔ d (namedBy x) .1 (rw e at h)))
-  told-named r (x ∷ xs) (inr m) h l =
+  pub said-named : (r : Record) (rs : List Record) → Among r rs → d ∈ namedBy r → times d (namedIn rs) ≤ 1 → saidOf d rs ≡ seenFrom d r
+  unfolding saidOf
+  said-named r [] m h l = absurd m
+  said-named r (x ∷ xs) (inl e) h l = rw e (pick-yes (isIn d (namedBy x)) (seenFrom d x) (saidOf d xs) (isIn↔ d (namedBy x) .1 (rw e at h)))
+  said-named r (x ∷ xs) (inr m) h l =
       let n = times-append d (namedBy x) (namedIn xs) in
       let s = named-some (namedBy r) h in
       let c = among-counted r xs m in
-      told-further x xs (omega arith) ∙ told-named r xs m h (omega arith)
+      said-further x xs (omega arith) ∙ said-named r xs m h (omega arith)
 
-  pub told-nobody : (rs : List Record) → times d (namedIn rs) ≡ 0 → told d rs ≡ P.Nobody
-  unfolding told
-  told-nobody [] e = refl
-  told-nobody (x ∷ xs) e =
+  pub said-nobody : (rs : List Record) → times d (namedIn rs) ≡ 0 → saidOf d rs ≡ P.Nobody
+  unfolding saidOf
+  said-nobody [] e = refl
+  said-nobody (x ∷ xs) e =
       let n = times-append d (namedBy x) (namedIn xs) in
-      told-further x xs (omega arith) ∙ told-nobody xs (omega arith)
+      said-further x xs (omega arith) ∙ said-nobody xs (omega arith)
 
 -- ---- by the link
 
@@ -87,5 +87,5 @@ module _ (d : ℕ) (l : Link) (h : l .touch ≡ d) where
         rw (eqb-no (l .peerTouch) d other, eqb-no (l .touch) none (λ z. some (sym h ∙ z)), eqb-no (l .peerTouch) none e)
     entry-seen r (virtual e) c = rw (eqb-no (l .touch) none (λ z. some (sym h ∙ z)), eqb-yes (l .peerTouch) none e)
 
-    pub entry-told : (r : Record) (rs : List Record) → EntryOf l r → Among r rs → times d (namedIn rs) ≤ 1 → told d rs ≡ partnerBy l
-    entry-told r rs e m c = told-named d r rs m (entry-names r e) c ∙ entry-seen r e (omega (arith, among-counted d r rs m))
+    pub entry-said : (r : Record) (rs : List Record) → EntryOf l r → Among r rs → times d (namedIn rs) ≤ 1 → saidOf d rs ≡ partnerBy l
+    entry-said r rs e m c = said-named d r rs m (entry-names r e) c ∙ entry-seen r e (omega (arith, among-counted d r rs m))
