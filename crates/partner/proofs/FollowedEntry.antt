@@ -42,9 +42,6 @@ module _ (t : Table) (full : Full t) (facts : Sound t) (d : ℕ) (defect : d < t
     inward : entry t x .touch ≢ d → Inward x
     inward n = go (inside-ring t b d (beside .on))
       where
-        touch : ℕ
-        touch = entry t x .touch
-
         y : ℕ
         y = besideWay 256 t (wayOf t d) (entry t x .touch)
 
