@@ -1,4 +1,4 @@
--- The answer one test at a time, as the code takes them.
+-- What the code answers, by the tests that it has made.
 use mathlib.Core.Path.{_≡_, sym, ap, _∙_}
 use mathlib.Core.Bool.{Bool, true, false}
 use mathlib.Core.List.{List}

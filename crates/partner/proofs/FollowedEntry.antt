@@ -1,5 +1,5 @@
 -- On a sound table the links that are followed inward come to the defect's own: `followedEntry` is `entry`.
-use mathlib.Core.Path.{_≡_, refl, sym, ap, _∙_}
+use mathlib.Core.Path.{_≡_, sym, ap, _∙_}
 use mathlib.Core.Logic.{_≢_, _⊎_, inl, inr}
 use mathlib.Core.Bool.{not}
 use Prim.Native.Nat.{ℕ, zero, suc, _≤_, _<_}
@@ -12,17 +12,18 @@ use Rattle.table.specs.Nodes.{isDefect, present, isPresentDefect}
 use Rattle.table.specs.Climb.{outerBlossom}
 use Rattle.rules.specs.Slots.{isStay, up, next}
 use Rattle.rules.specs.Sound.{sound}
-use Rattle.rules.specs.Partner.{ringLink, entry}
+use Rattle.rules.specs.Partner.{linkInTwos, entry}
 use Rattle.theorems_soundness.specs.FactsOfBlossoms.{InnerChild, Inside, DefectInside}
 use Rattle.theorems_soundness.specs.Facts.{Sound}
 use Rattle.theorems_soundness.proofs.Reflect.{and→, pick-yes, pick-no, test-case, same-or-not}
 use Rattle.theorems_soundness.proofs.ReflectSlots.{stay↔, inner-present}
 use Rattle.theorems_soundness.proofs.SoundFacts.{sound→facts}
 use Rattle.theorems_soundness.proofs.Past.{present-below}
-use Rattle.theorems_soundness.proofs.InsideLaws.{inside-self, inside-ring-node, inside-join, inside-ring, outer-blossom-holds}
+use Rattle.theorems_soundness.proofs.InsideLaws.{inside-self, inside-ring, outer-blossom-holds}
 use Rattle.theorems_requests.proofs.InsideCounts.{nodesInside, nodes-some, nodes-less, nodes-above, nodes-fit, defect-inside-alone}
-use Rattle.theorems_partner.proofs.EntryTouches.{same-at-touch, entry-across}
-use Rattle.theorems_partner.proofs.SlotEntries.{stay-entry, stay-touch, unmatched-nobody}
+use Rattle.theorems_partner.proofs.EntryLaws.{matched-entry}
+use Rattle.theorems_partner.proofs.EntryTouches.{around, one-link, beside, beside-touch}
+use Rattle.theorems_partner.proofs.SlotsTell.{matched-touch, paired-with-nobody}
 use Rattle.partner.specs.Way.{besideWay}
 use Rattle.partner.specs.Following.{turnedOff, followed, wayOf, followedEntry}
 use Rattle.partner.proofs.WayLaws.{Beside, way-below, beside-way}
@@ -34,64 +35,64 @@ module _ (t : Table) (full : Full t) (facts : Sound t) (d : ℕ) (defect : d < t
     node : ℕ
     link-is : turnedOff t (wayOf t d) (entry t x .touch) ≡ entry t node
     there : T (present t node)
-    around : Inside t node d
+    around-d : Inside t node d
     touched : DefectInside t node (entry t node .touch)
     smaller : nodesInside t node < nodesInside t x
 
-  module _ (x : ℕ) (there : T (present t x)) (around : Inside t x d) (touched : DefectInside t x (entry t x .touch)) where
+  module _ (x : ℕ) (there : T (present t x)) (around-d : Inside t x d) (touched : DefectInside t x (entry t x .touch)) where
     inward : entry t x .touch ≢ d → Inward x
-    inward n = go (inside-ring t b d (beside .on))
+    inward n = go (inside-ring t b d (climb .on))
       where
         y : ℕ
         y = besideWay 256 t (wayOf t d) (entry t x .touch)
 
-        beside : Beside t full (facts .rest) d defect x (entry t x .touch) y
-        beside =
-            beside-way t full (facts .rest) d defect x (entry t x .touch) (present-below t full x there) (touched .inside) around
+        climb : Beside t full (facts .rest) d defect x (entry t x .touch) y
+        climb =
+            beside-way t full (facts .rest) d defect x (entry t x .touch) (present-below t full x there) (touched .inside) around-d
             (λ i. n (sym (defect-inside-alone t full (facts .rest) (entry t x .touch) d (touched .defect) i)))
 
         b : ℕ
         b = up t y
 
-        held : Inside t (up t y) (entry t x .touch)
-        held = inside-join t (up t y) y (entry t x .touch) (beside .holds) (inside-ring-node t (up t y) y (beside .is-inner, refl))
+        held : DefectInside t y (entry t x .touch)
+        held = record { defect = touched .defect; inside = climb .holds }
 
         same : entry t (up t y) ≡ entry t x
-        same = same-at-touch t full (facts .rest) x (up t y) (entry t x .touch) (beside .within) (touched .defect) refl held
+        same = one-link t full (facts .rest) x (up t y) (climb .within) (around t full (facts .rest) y (entry t x .touch) (climb .is-inner) held)
 
         go : (d ≡ b) ⊎ ((z : ℕ) × InnerChild t b z × Inside t z d) → Inward x
-        go (inl e) = absurd (omega (arith, facts .rest .inners y (beside .is-inner) .parent .blossom))
+        go (inl e) = absurd (omega (arith, facts .rest .inners y (climb .is-inner) .parent .blossom))
         go (inr (z, c, h)) =
-            let other : z ≢ y = λ e. beside .off (rw e at h) in
-            let across = entry-across t full (facts .rest) y z (beside .is-inner) c other (rw same (touched .defect)) (rw same (beside .holds)) in
+            let other : z ≢ y = λ e. climb .off (rw e at h) in
+            let at-y : DefectInside t y (entry t (up t y) .touch) = rw same held in
             record {
               node = z;
-              link-is = ap (λ (m : ℕ). ringLink 128 m (next t y) t) (rw (c .1) at (way-below t full (facts .rest) d defect z (c .0) h)) ∙ sym (across .0);
+              link-is = ap (linkInTwos 128 t (next t y)) (rw (c .1) at (way-below t full (facts .rest) d defect z (c .0) h)) ∙ sym (beside t full (facts .rest) y (climb .is-inner) at-y z c other);
               there = inner-present (at t z .state) (c .0);
-              around = h;
-              touched = across .1;
-              smaller = omega (arith, nodes-above t full (facts .rest) z (c .0), ap (nodesInside t) (c .1), nodes-less t full (facts .rest) (up t y) x (beside .within));
+              around-d = h;
+              touched = beside-touch t full (facts .rest) y (climb .is-inner) at-y z c other;
+              smaller = omega (arith, nodes-above t full (facts .rest) z (c .0), ap (nodesInside t) (c .1), nodes-less t full (facts .rest) (up t y) x (climb .within));
             }
 
   follow : (k x : ℕ) → T (present t x) → Inside t x d → DefectInside t x (entry t x .touch) → nodesInside t x ≤ k → followed k t (wayOf t d) d (entry t x) ≡ entry t d
   follow zero x p h i l = absurd (omega (arith, nodes-some t full (facts .rest) x (present-below t full x p)))
   follow (suc k) x p h i l =
       elim (same-or-not (entry t x .touch) d) [
-        | inl e ↦ followed-stop t (wayOf t d) d (entry t x) (suc k) e ∙ sym (same-at-touch t full (facts .rest) x d d h defect e (inside-self t d))
+        | inl e ↦ followed-stop t (wayOf t d) d (entry t x) (suc k) e ∙ sym (one-link t full (facts .rest) x d h (rw e (record { defect = defect; inside = inside-self t d })))
         | inr n ↦
             let r = inward x p h i n in
             followed-inward t (wayOf t d) d (entry t x) k n
             ∙ ap (followed k t (wayOf t d) d) (r .link-is)
-            ∙ follow k (r .node) (r .there) (r .around) (r .touched) (omega (arith, r .smaller))
+            ∙ follow k (r .node) (r .there) (r .around-d) (r .touched) (omega (arith, r .smaller))
       ]
 
   module _ (there : T (present t d)) where
     matched : at t (outerBlossom t d) .state ≡ S.Stay → followed 256 t (wayOf t d) d (at t (outerBlossom t d) .link) ≡ entry t d
     matched s =
         let h = outerBlossom t d in
-        let e = stay-entry t full facts h s in
+        let e = matched-entry t h s in
         ap (followed 256 t (wayOf t d) d) (sym e)
-        ∙ follow 256 h (rw s tt) (outer-blossom-holds t full (facts .rest) d there) (rw e (stay-touch t full facts h s)) (nodes-fit t full (facts .rest) h)
+        ∙ follow 256 h (rw s tt) (outer-blossom-holds t full (facts .rest) d there) (rw e (matched-touch t full facts h s)) (nodes-fit t full (facts .rest) h)
 
     followed-all : followedEntry t d ≡ entry t d
     followed-all = go (test-case (isStay (at t (outerBlossom t d) .state)))
@@ -101,7 +102,7 @@ module _ (t : Table) (full : Full t) (facts : Sound t) (d : ℕ) (defect : d < t
         go (inr n) =
             let no = T-not (isStay (at t (outerBlossom t d) .state)) n in
             pick-no (isStay (at t (outerBlossom t d) .state)) _ noLink no
-            ∙ sym (unmatched-nobody t full facts d defect there (λ e. no (stay↔ (at t (outerBlossom t d) .state) .1 e)))
+            ∙ sym (paired-with-nobody t full facts d there (λ e. no (stay↔ (at t (outerBlossom t d) .state) .1 e)))
 
 pub followed-entry : (t : Table) → Full t → T (sound t) → (d : ℕ) → T (isPresentDefect t d) → followedEntry t d ≡ entry t d
 followed-entry t full s d h =

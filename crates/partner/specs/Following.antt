@@ -9,12 +9,12 @@ use Rattle.slot.specs.Slot.{Link, noLink}
 use Rattle.table.specs.Table.{Table, at}
 use Rattle.table.specs.Climb.{outerBlossom}
 use Rattle.rules.specs.Slots.{isStay, up, next}
-use Rattle.rules.specs.Partner.{ringLink}
+use Rattle.rules.specs.Partner.{linkInTwos}
 use Rattle.partner.specs.Way.{noted, besideWay}
 
 -- the ring node x on the way, where the ring is touched at y
 abbrev pub acrossRing : Table → List ℕ → ℕ → Link
-acrossRing t w y = ringLink 128 (getD w (up t y) 0) (next t y) t
+acrossRing t w y = linkInTwos 128 t (next t y) (getD w (up t y) 0)
 
 -- a touch beside the way
 abbrev pub turnedOff : Table → List ℕ → ℕ → Link

@@ -10,12 +10,12 @@ use table::numbers::number_of;
 ghost use mathlib.Core.Path.{_≡_};
 ghost use Rattle.slot.specs.Slot.{linkOf};
 ghost use Rattle.table.specs.Words.{tableOf};
-ghost use Rattle.rules.specs.Partner.{ringLink};
+ghost use Rattle.rules.specs.Partner.{linkInTwos};
 ghost use Rattle.partner.specs.Following.{turnedOff, followed};
 
-// The ring from n on, two by two, up to x: the link of the first of two, or that link seen from its other end.
+// The link of x among the ring nodes from n on, which go two by two.
 fn ring_link(t: &Table, x: Node, n: Node) -> Link
-    ensures { λ r. ⌜ linkOf r ≡ ringLink 128 (x .0) (n .0) (tableOf (now (t .entry))) ⌝ }
+    ensures { λ r. ⌜ linkOf r ≡ linkInTwos 128 (tableOf (now (t .entry))) (n .0) (x .0) ⌝ }
 {
     let mut first = n;
     let mut left: usize = 128;

@@ -5,7 +5,7 @@ use Prim.Native.Nat.{ℕ}
 use Rattle.slot.specs.Number.{none}
 use Rattle.slot.specs.Slot.{Link, noLink}
 use Rattle.record.specs.declared.request.Request.{Request}
-use Rattle.rules.specs.Partner.{ringNode, ringLink, linkBeside, linkInside, entryWithin, entry}
+use Rattle.rules.specs.Partner.{holder, linkInTwos, pairedWithin, entry}
 use Rattle.rules.specs.Script.{join, border, after}
 use Rattle.rules.specs.Scenarios.{start, nested}
 use Rattle.rules.proofs.Script.{all-rules}
@@ -14,7 +14,7 @@ link : ℕ → ℕ → ℕ → ℕ → Link
 link t v p w = record { touch = t; through = v; peerTouch = p; peerThrough = w }
 
 unfoldable asking : Unit {0}
-unfolding all-rules start ringNode ringLink linkBeside linkInside entryWithin link
+unfolding all-rules start holder linkInTwos pairedWithin link
 asking = tt
 
 -- outer nodes: a pair, a virtual match, a free node; in a tree the − node 0 stores a link, and is not matched

@@ -1,43 +1,41 @@
--- Whom a node is paired with, read from the node upward, ring by ring, with no list (ticket 3 of 02). It follows the listing's two
--- rules; that the listing says the same is proved in theorems_partner/proofs/AsListed. Every walk has a budget.
+-- Whom a node is paired with, without a list (ticket 3 of 02). What the listing works out from the outside inward is asked here from a
+-- node upward; that both say the same is proved in theorems_partner/proofs/AsListed. Walks have budgets, as all of them.
 use Prim.Native.Nat.{ℕ, zero, suc}
 use lib.Dec.{eqb}
 use Rattle.lists.specs.Choice.{pick}
-use Rattle.slot.specs.Slot.{Link, Slot, noLink, mirror}
+use Rattle.slot.specs.Slot.{Link, noLink, mirror}
 use Rattle.table.specs.Table.{Table, at}
-use Rattle.table.specs.Nodes.{outer}
-use Rattle.rules.specs.Act.{choose}
+use Rattle.table.specs.Nodes.{inner}
 use Rattle.rules.specs.Slots.{isNone, isStay, up, next}
 
--- the ring node of b that n is inside: the first of the climb from n whose parent is b
-unfoldable pub ringNode : ℕ → ℕ → ℕ → Table → ℕ
-ringNode zero b n t = n
-ringNode (suc k) b n t = choose (eqb (up t n) b) (λ u. n) (λ u. ringNode k b (up u n) u) t
+-- which ring node of the blossom b holds n: climbing from n, the last node below b
+unfoldable pub holder : ℕ → Table → ℕ → ℕ → ℕ
+holder zero t b n = n
+holder (suc k) t b n = let higher = holder k t b (up t n) in pick (eqb (up t n) b) n higher
 
--- ring node x, where the ring from n on is taken "two by two": the first of two is paired by its link, the second by that link seen
--- from its other end
-unfoldable pub ringLink : ℕ → ℕ → ℕ → Table → Link
-ringLink zero x n t = noLink
-ringLink (suc k) x n t =
-    choose (eqb x n) (λ u. at u n .link)
-    (λ u. choose (eqb x (next u n)) (λ v. mirror (at v n .link)) (λ v. ringLink k x (next v (next v n)) v) u) t
+-- the link of x among the ring nodes from a on: they go "two by two", a with the next node by a's link, which that one sees mirrored
+unfoldable pub linkInTwos : ℕ → Table → ℕ → ℕ → Link
+linkInTwos zero t a x = noLink
+linkInTwos (suc k) t a x =
+    let later = linkInTwos k t (next t (next t a)) x in
+    pick (eqb x a) (at t a .link) (pick (eqb x (next t a)) (mirror (at t a .link)) later)
 
--- ring node x, where their blossom is paired by l at the ring node y: y itself by l, the others as "ring nodes after the touched one"
-unfoldable pub linkBeside : ℕ → ℕ → Link → Table → Link
-linkBeside x y l t = choose (eqb x y) (λ u. l) (λ u. ringLink 128 x (next u y) u) t
+-- .. of any x in the ring, where the blossom is paired by l at its ring node y: y keeps l, and the "ring nodes after the touched one"
+-- go two by two
+abbrev pub inRing : Table → Link → ℕ → ℕ → Link
+inRing t l y x = pick (eqb x y) l (linkInTwos 128 t (next t y) x)
 
--- inner node x, where the blossom around it is paired by l, or with nobody
-unfoldable pub linkInside : ℕ → Link → Table → Link
-linkInside x l t = choose (isNone (l .touch)) (λ u. noLink) (λ u. linkBeside x (ringNode 256 (up u x) (l .touch) u) l u) t
+-- inside a blossom that is paired by l; with nobody, if the blossom is
+abbrev pub insidePaired : Table → Link → ℕ → Link
+insidePaired t l x = pick (isNone (l .touch)) noLink (inRing t l (holder 256 t (up t x) (l .touch)) x)
 
--- an outer node: "matched ones only"
-abbrev pub matchedLink : Slot → Link
-matchedLink s = pick (isStay (s .state)) (s .link) noLink
+-- of any node: an inner one by the blossom around it, an outer one by its own link, "matched ones only"
+unfoldable pub pairedWithin : ℕ → Table → ℕ → Link
+pairedWithin zero t x = noLink
+pairedWithin (suc k) t x =
+    let inward = insidePaired t (pairedWithin k t (up t x)) x in
+    pick (inner t x) inward (pick (isStay (at t x .state)) (at t x .link) noLink)
 
--- the link by which x is paired once all outside x is settled, as x sees it; nobody is a link of none
-unfoldable pub entryWithin : ℕ → ℕ → Table → Link
-entryWithin zero x t = noLink
-entryWithin (suc k) x t = choose (outer t x) (λ u. matchedLink (at u x)) (λ u. linkInside x (entryWithin k (up u x) u) u) t
-
+-- the link that pairs x, as x sees it; a link of none for nobody
 abbrev pub entry : Table → ℕ → Link
-entry t x = entryWithin 256 x t
+entry t x = pairedWithin 256 t x

@@ -11,7 +11,7 @@ use Rattle.record.specs.declared.request.Request.{Request}
 use Rattle.rules.specs.Act.{nodeOf}
 use Rattle.rules.specs.Slots.{withSibling}
 use Rattle.rules.specs.Listing.{vertexOf, listing}
-use Rattle.rules.specs.Partner.{ringNode, ringLink, linkBeside, linkInside, entryWithin}
+use Rattle.rules.specs.Partner.{holder, linkInTwos, pairedWithin}
 use Rattle.rules.specs.Script.{meet, join, border, after, acceptedInTurn}
 use Rattle.rules.specs.Scenarios.{start, nested}
 use Rattle.rules.proofs.Script.{all-rules}
@@ -38,7 +38,7 @@ matched-blossom = free-blossom ++ border 128 0 30 99 ∷ []
 
 -- opens every definition of the question
 unfoldable asking : Unit {0}
-unfolding ringNode ringLink linkBeside linkInside entryWithin saidOf with with-virtual free-blossom matched-blossom
+unfolding holder linkInTwos pairedWithin saidOf with with-virtual free-blossom matched-blossom
 asking = tt
 
 -- (e): 1 with 2, seen from either with the through numbers exchanged, and 0 with the virtual vertex 99
@@ -69,7 +69,7 @@ asked-in-a-tree :
 unfolding all-rules asking
 asked-in-a-tree = (refl, refl, refl)
 
--- 128 is a ring of 2, 0, 1; 129 one of 128, 3, 4; 130 one of 22, 20, 21; 130 and 129 are matched at 20 and 3
+-- `nested` has the rings 2, 0, 1 (in 128) and 128, 3, 4 (in 129). Beside it stands 130, of 22, 20, 21, matched at 20 to 129 at 3
 two-deep : List Request
 two-deep = nested ++ join 20 21 ∷ join 22 20 ∷ join 22 21 ∷ meet 130 129 20 3 50 51 ∷ []
 

@@ -1,14 +1,13 @@
--- The answer is told from the entry that the listing has of the defect; and the partner's is the same entry, seen from there.
+-- From the rule to the answer, and from the answer to the entry behind it.
 use mathlib.Core.Path.{_≡_, refl, sym, ap, _∙_}
 use mathlib.Core.Logic.{_≢_, _↔_, _⊎_, inl, inr}
 use mathlib.Core.Bool.{Bool, true, false, not}
-use mathlib.Core.List.{List, [], _∷_}
+use mathlib.Core.List.{[], _∷_}
 use Prim.Native.Nat.{ℕ, _≤_}
 use native.Mathlib.Omega.{arith}
 use lib.Dec.{T, T-not, ltb→lt}
 use Rattle.lists.specs.Choice.{pick}
-use Rattle.slot.specs.Number.{none}
-use Rattle.slot.specs.Slot.{Link, noLink, mirror}
+use Rattle.slot.specs.Slot.{noLink}
 use Rattle.table.specs.Table.{Table, at, Full}
 use Rattle.table.specs.Nodes.{isDefect, present, isPresentDefect}
 use Rattle.table.specs.Climb.{outerBlossom}
@@ -16,154 +15,123 @@ use Rattle.refusal.specs.declared.Refusal.the-variants.{NotSound, NoSuchNode}
 use Rattle.record.specs.declared.answer.Pair.{Pair}
 use Rattle.record.specs.declared.answer.VirtualPair.{VirtualPair}
 use Rattle.record.specs.declared.answer.Record.{Record}
+use Rattle.record.specs.declared.answer.Record.the-variants as R
 use Rattle.rules.specs.Act.{nodeOf}
-use Rattle.rules.specs.Slots.{isStay, isNone}
+use Rattle.rules.specs.Slots.{isStay}
 use Rattle.rules.specs.Sound.{sound}
-use Rattle.rules.specs.Listing.{listing, pairOf, virtualPairOf}
+use Rattle.rules.specs.Listing.{listing}
 use Rattle.rules.specs.Partner.{entry}
 use Rattle.rules.specs.Refusals.{_when_, firstOf}
 use Rattle.outcome.specs.declared.partner.Partner.{Partner}
 use Rattle.outcome.specs.declared.partner.Partner.the-variants as P
 use Rattle.outcome.specs.Partner.{partnerBy, unlessRefused, partnerOf}
 use Rattle.outcome.specs.PartnerInNumbers.{partnerRefusal, partnerKind}
-use Rattle.theorems_requests.specs.Named.{namedIn, times, isListed, Entry, Each}
-use Rattle.theorems_partner.specs.Said.{turned, saidOf}
-use Rattle.theorems_soundness.proofs.Reflect.{and→, pick-no, test-true, test-case, eqb-no, not-eqb↔}
+use Rattle.theorems_soundness.specs.Chain.{_∈_}
+use Rattle.theorems_requests.specs.Named.{namedBy, namedIn, times, isListed, Entry}
+use Rattle.theorems_partner.specs.Said.{turned, seenFrom, saidOf}
+use Rattle.theorems_soundness.proofs.Reflect.{and→, pick-no, test-true, test-case, eqb-yes, eqb-no}
 use Rattle.theorems_soundness.proofs.ReflectSlots.{stay↔}
 use Rattle.theorems_soundness.proofs.SoundFacts.{sound→facts}
+use Rattle.theorems_soundness.proofs.InsideLaws.{outer-blossom-holds}
+use Rattle.theorems_requests.proofs.CountLaws.{one-same}
 use Rattle.theorems_requests.proofs.EachEventOnce.{listed-once, entries-are-links}
-use Rattle.theorems_partner.proofs.SaidLaws.{Among, EntryOf, first, second, virtual, said-nobody, entry-names, entry-said}
-use Rattle.theorems_partner.proofs.EntryTouches.{defect-some}
-use Rattle.theorems_partner.proofs.EntriesListed.{Listed}
-use Rattle.theorems_partner.proofs.SlotEntries.{matched-listed, unmatched-nobody}
+use Rattle.theorems_partner.proofs.SaidLaws.{IsEntry, each-entry, part, said-nobody, said-by, source, pair-seen, virtual-seen}
+use Rattle.theorems_partner.proofs.EntriesListed.{Tells}
+use Rattle.theorems_partner.proofs.SlotsTell.{matched-tells, paired-with-nobody}
 
-among-each : (P : Record → Type 0) (r : Record) (rs : List Record) → Each P rs → Among r rs → P r
-among-each P r [] h m = absurd m
-among-each P r (x ∷ xs) h (inl e) = rw e (h .0)
-among-each P r (x ∷ xs) h (inr m) = among-each P r xs (h .1) m
+one-at-most : (b : Bool) → pick b 1 0 ≤ 1
+one-at-most true = omega arith
+one-at-most false = omega arith
 
--- the same entry, seen from its other end
-other-end : (l : Link) (r : Record) → l .touch ≢ none → l .peerTouch ≢ none → EntryOf l r → EntryOf (mirror l) r
-other-end l r h d (first e) = second h
-other-end l r h d (second e) = first h
-other-end l r h d (virtual e) = absurd (d e)
-
-at-most-one : (b : Bool) → pick b 1 0 ≤ 1
-at-most-one true = omega arith
-at-most-one false = omega arith
-
--- what a link with a touch says is no "nobody"
-somebody : (l : Link) → l .touch ≢ none → partnerBy l ≢ P.Nobody
-somebody l h e = go (isNone (l .peerTouch)) (rw (eqb-no (l .touch) none h) at e)
-  where
-    go : (b : Bool) → pick b (P.Virtual (virtualPairOf l)) (P.Defect (pairOf l)) ≡ P.Nobody → ⊥
-    go true q = absurd (omega (arith, ap partnerKind q))
-    go false q = absurd (omega (arith, ap partnerKind q))
+-- an entry that names d sees somebody
+somebody : (d : ℕ) (r : Record) → d ∈ namedBy r → seenFrom d r ≢ P.Nobody
+somebody d (R.Speed n s) m e = absurd m
+somebody d (R.Create n) m e = absurd m
+somebody d (R.Expand n) m e = absurd m
+somebody d (R.End n s) m e = absurd m
+somebody d (R.Pair q) m e = absurd (omega (arith, ap partnerKind e))
+somebody d (R.VirtualPair q) m e = absurd (omega (arith, ap partnerKind e))
 
 module _ (t : Table) (full : Full t) (s : T (sound t)) where
-  named-once : (d : ℕ) → times d (namedIn (listing t)) ≤ 1
-  named-once d = omega (arith, listed-once t full s d, at-most-one (isListed t d))
+  pub once : (d : ℕ) → times d (namedIn (listing t)) ≤ 1
+  once d = omega (arith, listed-once t full s d, one-at-most (isListed t d))
 
   module _ (d : ℕ) (h : T (isPresentDefect t d)) where
-    parts : T (isDefect t d) × T (present t d)
-    parts = and→ (isDefect t d) (present t d) h
-
-    asked-some : d ≢ none
-    asked-some = defect-some t full (sound→facts t full s .rest) d (ltb→lt d (t .begin) (parts .0))
-
-    -- listed, by the entry of its own link; or nobody, and no entry names it
-    pub listed-or-nobody : Listed t d (listing t) ⊎ ((entry t d ≡ noLink) × (times d (namedIn (listing t)) ≡ 0))
-    listed-or-nobody = go (test-case stay)
+    -- the listing tells d what the rule does; or it does not name d, and the rule says nobody
+    told-or-not : Tells t d (listing t) ⊎ ((entry t d ≡ noLink) × (times d (namedIn (listing t)) ≡ 0))
+    told-or-not = by (test-case (isStay (at t (outerBlossom t d) .state)))
       where
-        stay : Bool
-        stay = isStay (at t (outerBlossom t d) .state)
+        by : T (isStay (at t (outerBlossom t d) .state)) ⊎ T (not (isStay (at t (outerBlossom t d) .state))) → Tells t d (listing t) ⊎ ((entry t d ≡ noLink) × (times d (namedIn (listing t)) ≡ 0))
+        by (inl y) =
+            let parts = and→ (isDefect t d) (present t d) h in
+            let around = outer-blossom-holds t full (sound→facts t full s .rest) d (parts .1) in
+            inl (matched-tells t full (sound→facts t full s) d (ltb→lt d (t .begin) (parts .0)) (outerBlossom t d) (stay↔ (at t (outerBlossom t d) .state) .0 y) around)
+        by (inr n) =
+            let parts = and→ (isDefect t d) (present t d) h in
+            let no = T-not (isStay (at t (outerBlossom t d) .state)) n in
+            let none = pick-no {A = ℕ} (isListed t d) 1 0 (λ x. no (and→ (isPresentDefect t d) (isStay (at t (outerBlossom t d) .state)) x .1)) in
+            inr (paired-with-nobody t full (sound→facts t full s) d (parts .1) (λ e. no (stay↔ (at t (outerBlossom t d) .state) .1 e)), listed-once t full s d ∙ none)
 
-        go : T stay ⊎ T (not stay) → Listed t d (listing t) ⊎ ((entry t d ≡ noLink) × (times d (namedIn (listing t)) ≡ 0))
-        go (inl y) =
-            inl (matched-listed t full (sound→facts t full s) d (ltb→lt d (t .begin) (parts .0)) (parts .1) (stay↔ (at t (outerBlossom t d) .state) .0 y))
-        go (inr n) =
-            let no : ¬ T stay = T-not stay n in
-            let unlisted = pick-no {A = ℕ} (isListed t d) 1 0 (λ x. no (and→ (isPresentDefect t d) stay x .1)) in
-            let alone = unmatched-nobody t full (sound→facts t full s) d (ltb→lt d (t .begin) (parts .0)) (parts .1) (λ e. no (stay↔ (at t (outerBlossom t d) .state) .1 e)) in
-            inr (alone, listed-once t full s d ∙ unlisted)
+    by-rule : partnerOf t d ≡ partnerBy (entry t d)
+    by-rule = rw (test-true (sound t) s, test-true (isPresentDefect t d) h)
 
-    pub own-touch : entry t d .touch ≢ none → entry t d .touch ≡ d
-    own-touch e = elim listed-or-nobody [ inl y ↦ y .own | inr n ↦ absurd (e (ap (λ (k : Link). k .touch) (n .0))) ]
+    said-by-teller : (h : Tells t d (listing t)) → saidOf d (listing t) ≡ seenFrom d (h .teller)
+    said-by-teller h = said-by d (h .teller) (listing t) (h .there) (h .names) (once d)
 
-    entry-as-said : partnerBy (entry t d) ≡ saidOf d (listing t)
-    entry-as-said =
-        elim listed-or-nobody [
-          | inl y ↦ sym (entry-said d (entry t d) (y .own) asked-some (y .said) (listing t) (y .entry-of) (y .among) (named-once d))
+    pub answered-as-listed : partnerOf t d ≡ saidOf d (listing t)
+    answered-as-listed =
+        by-rule ∙ elim told-or-not [
+          | inl y ↦ sym (said-by-teller y ∙ y .right (omega (arith, part d (y .teller) (listing t) (y .there), once d)))
           | inr n ↦ ap partnerBy (n .0) ∙ sym (said-nobody d (listing t) (n .1))
         ]
 
-    accepted : partnerOf t d ≡ partnerBy (entry t d)
-    accepted = rw (test-true (sound t) s, test-true (isPresentDefect t d) h)
-
-    pub answered-as-listed : partnerOf t d ≡ saidOf d (listing t)
-    answered-as-listed = accepted ∙ entry-as-said
-
     pub nobody-unnamed : (partnerOf t d ≡ P.Nobody) ↔ (times d (namedIn (listing t)) ≡ 0)
-    nobody-unnamed = (λ e. go e listed-or-nobody, λ z. answered-as-listed ∙ said-nobody d (listing t) z)
+    nobody-unnamed = (λ e. by e told-or-not, λ z. answered-as-listed ∙ said-nobody d (listing t) z)
       where
-        go : partnerOf t d ≡ P.Nobody → Listed t d (listing t) ⊎ ((entry t d ≡ noLink) × (times d (namedIn (listing t)) ≡ 0)) → times d (namedIn (listing t)) ≡ 0
-        go e (inl y) = absurd (somebody (entry t d) (λ z. asked-some (sym (y .own) ∙ z)) (sym accepted ∙ e))
-        go e (inr n) = n .1
+        by : partnerOf t d ≡ P.Nobody → Tells t d (listing t) ⊎ ((entry t d ≡ noLink) × (times d (namedIn (listing t)) ≡ 0)) → times d (namedIn (listing t)) ≡ 0
+        by e (inl y) = absurd (somebody d (y .teller) (y .names) (sym (said-by-teller y) ∙ sym answered-as-listed ∙ e))
+        by e (inr n) = n .1
 
-  -- ---- the partner
+-- ---- an answer that is no refusal: the table is sound and the defect present
 
-  module _ (d : ℕ) (h : T (isPresentDefect t d)) (some : entry t d .touch ≢ none) (peer-some : entry t d .peerTouch ≢ none) where
-    back : Listed t d (listing t) → partnerOf t (entry t d .peerTouch) ≡ P.Defect (turned (pairOf (entry t d)))
-    back y =
-        let l = entry t d in
-        let r = other-end l (y .said) some peer-some (y .entry-of) in
-        let there = among-each (Entry t) (y .said) (listing t) (entries-are-links t full s) (y .among) .names (l .peerTouch) (entry-names (l .peerTouch) (mirror l) refl (y .said) r) in
-        answered-as-listed (l .peerTouch) there
-        ∙ entry-said (l .peerTouch) (mirror l) refl peer-some (y .said) (listing t) r (y .among) (named-once (l .peerTouch))
-        ∙ rw (eqb-no (l .peerTouch) none peer-some, eqb-no (l .touch) none some)
+answered : (s h : Bool) (a b : Partner) → unlessRefused (firstOf (NotSound when not s ∷ NoSuchNode when not h ∷ [])) a ≡ b → partnerRefusal b ≡ 0 → T s × T h
+answered false h a b e z = absurd (omega (arith, ap partnerRefusal e))
+answered true false a b e z = absurd (omega (arith, ap partnerRefusal e))
+answered true true a b e z = (tt, tt)
 
-    pub partner-back : partnerOf t (entry t d .peerTouch) ≡ P.Defect (turned (pairOf (entry t d)))
-    partner-back = elim (listed-or-nobody d h) [ inl y ↦ back y | inr n ↦ absurd (some (ap (λ (k : Link). k .touch) (n .0))) ]
+no-nobody : (a : Partner) → 1 ≤ partnerKind a → a ≢ P.Nobody
+no-nobody a k e = omega (arith, ap partnerKind e)
 
--- ---- what an answer tells of the checks and of the link
-
-accepted-as : (s h : Bool) (a b : Partner) → unlessRefused (firstOf (NotSound when not s ∷ NoSuchNode when not h ∷ [])) a ≡ b → partnerRefusal b ≡ 0 → T s × T h × (a ≡ b)
-accepted-as false h a b e z = absurd (omega (arith, ap partnerRefusal e))
-accepted-as true false a b e z = absurd (omega (arith, ap partnerRefusal e))
-accepted-as true true a b e z = (tt, tt, e)
-
-link-of-defect : (n v : Bool) (x : VirtualPair) (y p : Pair) → pick n P.Nobody (pick v (P.Virtual x) (P.Defect y)) ≡ P.Defect p → T (not n) × T (not v) × (y ≡ p)
-link-of-defect true v x y p e = absurd (omega (arith, ap partnerKind e))
-link-of-defect false true x y p e = absurd (omega (arith, ap partnerKind e))
-link-of-defect false false x y p e = (tt, tt, cc)
-
-link-of-virtual : (n v : Bool) (x p : VirtualPair) (y : Pair) → pick n P.Nobody (pick v (P.Virtual x) (P.Defect y)) ≡ P.Virtual p → T (not n) × (x ≡ p)
-link-of-virtual true v x p y e = absurd (omega (arith, ap partnerKind e))
-link-of-virtual false true x p y e = (tt, cc)
-link-of-virtual false false x p y e = absurd (omega (arith, ap partnerKind e))
+-- a pair in an entry of a list that names each of the two once: the other one is told the same pair, turned
+other-end : (t : Table) → Full t → T (sound t) → (q : Pair) → IsEntry (R.Pair q) (listing t) → (partnerOf t (q .peer .0) ≡ P.Defect (turned q)) × (partnerOf t (q .node .0) ≡ P.Defect q)
+other-end t full s q m =
+    let named = each-entry (Entry t) (R.Pair q) (listing t) (entries-are-links t full s) m .names in
+    let few = part (q .peer .0) (R.Pair q) (listing t) m in
+    let most = once t full s (q .peer .0) in
+    let apart : q .node .0 ≢ q .peer .0 = λ z. omega (arith, one-same (q .peer .0) (q .node .0) (sym z), one-same (q .peer .0) (q .peer .0) refl) in
+    let second = answered-as-listed t full s (q .peer .0) (named (q .peer .0) (inr (inl refl))) ∙ said-by (q .peer .0) (R.Pair q) (listing t) m (inr (inl refl)) most in
+    let first = answered-as-listed t full s (q .node .0) (named (q .node .0) (inl refl)) ∙ said-by (q .node .0) (R.Pair q) (listing t) m (inl refl) (once t full s (q .node .0)) in
+    (second ∙ rw (eqb-no (q .node .0) (q .peer .0) apart), first ∙ rw (eqb-yes (q .node .0) (q .node .0) refl))
 
 module _ (t : Table) (full : Full t) (d : ℕ) where
-  some-touch : T (not (isNone (entry t d .touch))) → entry t d .touch ≢ none
-  some-touch = not-eqb↔ (entry t d .touch) none .0
-
   module _ (p : Pair) (e : partnerOf t d ≡ P.Defect p) where
-    checked : T (sound t) × T (isPresentDefect t d) × (partnerBy (entry t d) ≡ P.Defect p)
-    checked = accepted-as (sound t) (isPresentDefect t d) (partnerBy (entry t d)) (P.Defect p) e refl
+    passed : T (sound t) × T (isPresentDefect t d)
+    passed = answered (sound t) (isPresentDefect t d) (partnerBy (entry t d)) (P.Defect p) e refl
 
-    paired : T (not (isNone (entry t d .touch))) × T (not (isNone (entry t d .peerTouch))) × (pairOf (entry t d) ≡ p)
-    paired = link-of-defect (isNone (entry t d .touch)) (isNone (entry t d .peerTouch)) _ _ p (checked .2)
+    listed : saidOf d (listing t) ≡ P.Defect p
+    listed = sym (answered-as-listed t full (passed .0) d (passed .1)) ∙ e
 
-    pub defect-asked : p .node ≡ nodeOf d
-    defect-asked = ap (λ (q : Pair). q .node) (sym (paired .2)) ∙ ap nodeOf (own-touch t full (checked .0) d (checked .1) (some-touch (paired .0)))
+    pub pair-back : (p .node ≡ nodeOf d) × (partnerOf t (p .peer .0) ≡ P.Defect (turned p))
+    pair-back =
+        let from = source d (P.Defect p) (listing t) (no-nobody (P.Defect p) (omega arith)) listed in
+        elim (pair-seen d (from .entry) p (from .names) (from .sees)) [
+          | inl w ↦ (ap nodeOf (w .1), other-end t full (passed .0) p (rw (w .0) at (from .there)) .0)
+          | inr w ↦ (ap nodeOf (w .1), other-end t full (passed .0) (turned p) (rw (w .0) at (from .there)) .1)
+        ]
 
-    answered-back : partnerOf t (p .peer .0) ≡ P.Defect (turned p)
-    answered-back = rw (sym (paired .2)) (partner-back t full (checked .0) d (checked .1) (some-touch (paired .0)) (not-eqb↔ (entry t d .peerTouch) none .0 (paired .1)))
-
-    pub defect-back : (partnerOf t (p .peer .0) ≡ P.Defect (turned p)) × (turned p .peer ≡ nodeOf d)
-    defect-back = (answered-back, defect-asked)
-
-  pub virtual-asked : (p : VirtualPair) → partnerOf t d ≡ P.Virtual p → p .node ≡ nodeOf d
-  virtual-asked p e =
-      let checked = accepted-as (sound t) (isPresentDefect t d) (partnerBy (entry t d)) (P.Virtual p) e refl in
-      let paired = link-of-virtual (isNone (entry t d .touch)) (isNone (entry t d .peerTouch)) _ p _ (checked .2) in
-      ap (λ (q : VirtualPair). q .node) (sym (paired .1)) ∙ ap nodeOf (own-touch t full (checked .0) d (checked .1) (some-touch (paired .0)))
+  pub virtual-first : (p : VirtualPair) → partnerOf t d ≡ P.Virtual p → p .node ≡ nodeOf d
+  virtual-first p e =
+      let passed = answered (sound t) (isPresentDefect t d) (partnerBy (entry t d)) (P.Virtual p) e refl in
+      let listed = sym (answered-as-listed t full (passed .0) d (passed .1)) ∙ e in
+      let from = source d (P.Virtual p) (listing t) (no-nobody (P.Virtual p) (omega arith)) listed in
+      ap nodeOf (virtual-seen d (from .entry) p (from .names) (from .sees))

@@ -1,5 +1,5 @@
--- Every call of the listing lists, for each defect inside the nodes that it is to name, the entry by which `entry` pairs the defect: shown over
--- the calls that the listing makes, from the touch down.
+-- The calls that the listing makes, one by one: each has, for every defect that it is to name, an entry that tells the defect what the rule
+-- tells it. A pair is told by its own entry at its two touches, and everywhere else by what is listed inside its nodes.
 use mathlib.Core.Path.{_≡_, refl, sym, ap, _∙_}
 use mathlib.Core.Logic.{_≢_, _⊎_, inl, inr}
 use mathlib.Core.List.{List, [], _∷_, _++_}
@@ -12,145 +12,189 @@ use Rattle.table.specs.Table.{Table, at, Full}
 use Rattle.table.specs.Nodes.{present, inner}
 use Rattle.record.specs.declared.answer.Record.{Record}
 use Rattle.rules.specs.Slots.{up, next}
-use Rattle.rules.specs.Listing.{pairEntry, pairListed, levelsListed, ringListed}
+use Rattle.rules.specs.Listing.{pairEntry, virtualEntry, pairListed, levelsListed, ringListed}
+use Rattle.rules.specs.Partner.{entry}
+use Rattle.outcome.specs.Partner.{partnerBy}
 use Rattle.theorems_soundness.specs.Chain.{_∈_}
 use Rattle.theorems_soundness.specs.FactsOfBlossoms.{Inside, DefectInside}
 use Rattle.theorems_soundness.specs.Facts.{Rest}
-use Rattle.theorems_soundness.proofs.Reflect.{same-or-not}
-use Rattle.theorems_soundness.proofs.InsideLaws.{inside-self, inside-ring-node, inside-join, inside-ring}
+use Rattle.theorems_requests.specs.Named.{namedBy, times}
+use Rattle.theorems_partner.specs.Said.{seenFrom}
+use Rattle.theorems_soundness.proofs.Reflect.{eqb-yes, eqb-no, same-or-not}
+use Rattle.theorems_soundness.proofs.InsideLaws.{inside-self, inside-ring}
+use Rattle.theorems_requests.proofs.CountLaws.{one-same}
 use Rattle.theorems_requests.proofs.RestOfRing.{after-in-ring}
 use Rattle.theorems_requests.proofs.InsideCounts.{nodesInside, inside-or-not, defect-inside-alone}
 use Rattle.theorems_requests.proofs.NestedCalls.{Joined, Within, next-level, defect-within, afterOf, on-every-pair, on-every-node}
 use Rattle.theorems_requests.proofs.ListingLaws.{insideListed, inside-blossom-listed, pair-listed, last-level-listed, level-listed, ring-pair-listed}
-use Rattle.rules.specs.Partner.{entry}
-use Rattle.theorems_partner.proofs.SaidLaws.{Among, among-left, among-right, EntryOf, first, second}
-use Rattle.theorems_partner.proofs.EntryLaws.{Linked}
-use Rattle.theorems_partner.proofs.EntryTouches.{defect-some, same-at-touch, after-linked}
+use Rattle.theorems_partner.proofs.SaidLaws.{IsEntry, entry-before, entry-behind}
+use Rattle.theorems_partner.proofs.RingTwos.{Two, now, later}
+use Rattle.theorems_partner.proofs.EntryTouches.{not-none, around, one-link, couple}
 
--- the list has the entry of e, which is at e's end of its link
-pub record Listed (t : Table) (e : ℕ) (rs : List Record) : Type 0 where
-  pub own : entry t e .touch ≡ e
-  pub said : Record
-  pub entry-of : EntryOf (entry t e) said
-  pub among : Among said rs
+-- an entry of the list tells e what the rule tells it
+pub record Tells (t : Table) (e : ℕ) (rs : List Record) : Type 0 where
+  pub teller : Record
+  pub there : IsEntry teller rs
+  pub names : e ∈ namedBy teller
+  pub right : times e (namedBy teller) ≤ 1 → seenFrom e teller ≡ partnerBy (entry t e)
 
 module _ (t : Table) (e : ℕ) where
-  pub listed-left : (xs ys : List Record) → Listed t e xs → Listed t e (xs ++ ys)
-  listed-left xs ys h = record { own = h .own; said = h .said; entry-of = h .entry-of; among = among-left (h .said) xs ys (h .among) }
+  pub tells-before : (xs ys : List Record) → Tells t e xs → Tells t e (xs ++ ys)
+  tells-before xs ys h = record { teller = h .teller; there = entry-before (h .teller) xs ys (h .there); names = h .names; right = h .right }
 
-  pub listed-right : (xs ys : List Record) → Listed t e ys → Listed t e (xs ++ ys)
-  listed-right xs ys h = record { own = h .own; said = h .said; entry-of = h .entry-of; among = among-right (h .said) xs ys (h .among) }
+  pub tells-behind : (xs ys : List Record) → Tells t e ys → Tells t e (xs ++ ys)
+  tells-behind xs ys h = record { teller = h .teller; there = entry-behind (h .teller) xs ys (h .there); names = h .names; right = h .right }
 
-module _ (t : Table) (full : Full t) (rest : Rest t) where
-  -- ---- call by call
+  -- ---- the last entry of a call, at a link's own two ends
 
-  module _ (e : ℕ) (defect : e < t .begin) where
-    PairLists : ℕ → ℕ → ℕ → Type 0
-    PairLists k n peer =
-        entry t n ≡ at t n .link → entry t peer ≡ mirror (at t n .link) → Inside t n e ⊎ Inside t peer e → Listed t e (pairListed k n peer (at t n .link) t)
+  module _ (l : Link) (xs : List Record) (some : l .touch ≢ none) where
+    at-the-end : (r : Record) → IsEntry r (xs ++ (r ∷ []))
+    at-the-end r = entry-behind r xs (r ∷ []) (inl refl)
 
-    InsideLists : ℕ → ℕ → ℕ → Type 0
-    InsideLists k n d = Inside t n d → entry t n .touch ≡ d → Inside t n e → e ≢ d → Listed t e (insideListed k n d t)
+    pub tells-touch : l .peerTouch ≢ none → entry t e ≡ l → l .touch ≡ e → Tells t e (xs ++ (pairEntry l ∷ []))
+    tells-touch peer q z =
+        record {
+          teller = pairEntry l;
+          there = at-the-end (pairEntry l);
+          names = inl (sym z);
+          right = λ c. rw (q, eqb-yes (l .touch) e z, eqb-no (l .touch) none some, eqb-no (l .peerTouch) none peer);
+        }
 
-    LevelsList : ℕ → ℕ → ℕ → Type 0
-    LevelsList k b d =
-        Within t b d → entry t b .touch < t .begin → Inside t d (entry t b .touch) → Inside t b e → ¬ Inside t d e → Listed t e (levelsListed k b d t)
+    pub tells-peer : l .peerTouch ≢ none → entry t e ≡ mirror l → l .peerTouch ≡ e → Tells t e (xs ++ (pairEntry l ∷ []))
+    tells-peer peer q z =
+        record {
+          teller = pairEntry l;
+          there = at-the-end (pairEntry l);
+          names = inr (inl (sym z));
+          right = λ c.
+              let other : l .touch ≢ e = λ u. omega (arith, one-same e (l .touch) (sym u), one-same e (l .peerTouch) (sym z)) in
+              rw (q, eqb-no (l .touch) e other, eqb-no (l .peerTouch) none peer, eqb-no (l .touch) none some);
+        }
 
-    RingLists : ℕ → ℕ → ℕ → List ℕ → Type 0
-    RingLists k d n cs = Linked t (entry t) cs → (c : ℕ) → c ∈ cs → Inside t c e → Listed t e (ringListed k d n t)
+    pub tells-virtual : l .peerTouch ≡ none → entry t e ≡ l → l .touch ≡ e → Tells t e (xs ++ (virtualEntry l ∷ []))
+    tells-virtual peer q z =
+        record {
+          teller = virtualEntry l;
+          there = at-the-end (virtualEntry l);
+          names = inl (sym z);
+          right = λ c. rw (q, eqb-no (l .touch) none some, eqb-yes (l .peerTouch) none peer);
+        }
 
-    defect-lists : (k n : ℕ) → n < t .begin → InsideLists k n n
-    unfolding InsideLists
-    defect-lists k n l w q i d = absurd (d (defect-inside-alone t full rest n e l i))
+module _ (t : Table) (full : Full t) (rest : Rest t) (e : ℕ) (defect : e < t .begin) where
+  -- the touch of a node that holds e is e, or e is listed inside
+  pub at-touch : (n : ℕ) → Inside t n e → e ≡ entry t n .touch → entry t e ≡ entry t n
+  at-touch n i z = one-link t full rest n e i (rw (sym z) (record { defect = defect; inside = inside-self t e }))
 
-    blossom-lists : (k b d : ℕ) → t .begin ≤ b → d < t .begin → LevelsList k b d → InsideLists k b d
-    unfolding InsideLists LevelsList
-    blossom-lists k b d l h p w q i n =
-        let within = defect-within t full rest b d l (record { defect = h; inside = w }) in
-        rw (inside-blossom-listed t k b d l) (p within (rw q h) (rw q (inside-self t d)) i (λ z. n (defect-inside-alone t full rest d e h z)))
+  -- ---- what each call is to do for e
 
-    -- the node's own entry
-    pub own-entry : (l : Link) (r : Record) → EntryOf l r → entry t e ≡ l → l .touch ≡ e → (xs : List Record) → Listed t e (xs ++ (r ∷ []))
-    own-entry l r h q s xs = record { own = rw q s; said = r; entry-of = rw q h; among = among-right r xs (r ∷ []) (inl refl) }
+  -- n and peer, paired by n's link
+  OnPair : ℕ → ℕ → ℕ → Type 0
+  OnPair k n peer =
+      entry t n ≡ at t n .link → entry t peer ≡ mirror (at t n .link) → Inside t n e ⊎ Inside t peer e → Tells t e (pairListed k n peer (at t n .link) t)
 
-    touch-some : (n peer : ℕ) → Joined t n peer → at t n .link .touch ≢ none
-    touch-some n peer j = defect-some t full rest (at t n .link .touch) (j .touch .defect)
+  -- inside n, which is paired at d
+  OnInside : ℕ → ℕ → ℕ → Type 0
+  OnInside k n d = DefectInside t n d → entry t n .touch ≡ d → Inside t n e → e ≢ d → Tells t e (insideListed k n d t)
 
-    peer-some : (n peer : ℕ) → Joined t n peer → at t n .link .peerTouch ≢ none
-    peer-some n peer j = defect-some t full rest (at t n .link .peerTouch) (j .peer-touch .defect)
+  -- between the node d on the way to the touch and the blossom b
+  OnLevels : ℕ → ℕ → ℕ → Type 0
+  OnLevels k b d = Within t b d → DefectInside t d (entry t b .touch) → Inside t b e → ¬ Inside t d e → Tells t e (levelsListed k b d t)
 
-    pair-lists : (k n peer : ℕ) → Joined t n peer → InsideLists k n (at t n .link .touch) → InsideLists k peer (at t n .link .peerTouch) → PairLists (suc k) n peer
-    unfolding InsideLists PairLists
-    pair-lists k n peer j p q s r (inl i) =
-        let l = at t n .link in
-        let x = insideListed k n (l .touch) t in
-        let y = insideListed k peer (l .peerTouch) t in
-        let touch = ap (λ (k : Link). k .touch) s in
-        rw (pair-listed t k n peer l) (elim (same-or-not e (l .touch)) [
-          | inl z ↦ own-entry l (pairEntry l) (first (peer-some n peer j)) (same-at-touch t full rest n e e i defect (touch ∙ sym z) (inside-self t e) ∙ s) (sym z) (x ++ y)
-          | inr d ↦ listed-left t e (x ++ y) (pairEntry l ∷ []) (listed-left t e x y (p (j .touch .inside) touch i d))
-        ])
-    pair-lists k n peer j p q s r (inr i) =
-        let l = at t n .link in
-        let x = insideListed k n (l .touch) t in
-        let y = insideListed k peer (l .peerTouch) t in
-        let touch = ap (λ (k : Link). k .touch) r in
-        rw (pair-listed t k n peer l) (elim (same-or-not e (l .peerTouch)) [
-          | inl z ↦ own-entry (mirror l) (pairEntry l) (second (touch-some n peer j)) (same-at-touch t full rest peer e e i defect (touch ∙ sym z) (inside-self t e) ∙ r) (sym z) (x ++ y)
-          | inr d ↦ listed-left t e (x ++ y) (pairEntry l ∷ []) (listed-right t e x y (q (j .peer-touch .inside) touch i d))
-        ])
+  -- the ring nodes of a list
+  OnRing : ℕ → ℕ → ℕ → List ℕ → Type 0
+  OnRing k d n cs =
+      ((a c : ℕ) → Two a c cs → (entry t a ≡ at t a .link) × (entry t c ≡ mirror (at t a .link))) → (x : ℕ) → x ∈ cs → Inside t x e → Tells t e (ringListed k d n t)
 
-    -- inside the blossom around d but not inside d: inside a ring node after d
-    level-ring : (k d : ℕ) (i : T (inner t d)) → RingLists k d (next t d) (afterOf t full rest d i) → entry t (up t d) .touch < t .begin → Inside t d (entry t (up t d) .touch) → Inside t (up t d) e → ¬ Inside t d e → Listed t e (ringListed k d (next t d) t)
-    unfolding RingLists
-    level-ring k d i p l h j n =
-        elim (inside-ring t (up t d) e j) [
-          | inl z ↦ absurd (omega (arith, rest .inners d i .parent .blossom))
-          | inr r ↦ p (after-linked t full rest d i l h) (r .0) (after-in-ring t full rest d i .all (r .0) (r .1) (λ z. n (rw z at (r .2)))) (r .2)
-        ]
+  -- ---- that each does so
 
-    last-lists : (k b d : ℕ) (i : T (inner t d)) → up t d ≡ b → RingLists k d (next t d) (afterOf t full rest d i) → LevelsList (suc k) b d
-    unfolding LevelsList
-    last-lists k b d i u p w l h j n =
-        rw (last-level-listed t k b d i u) (listed-left t e (ringListed k d (next t d) t) [] (level-ring k d i p (rw u l) (rw u h) (rw u j) n))
+  in-a-defect : (k n : ℕ) → n < t .begin → OnInside k n n
+  unfolding OnInside
+  in-a-defect k n l w q i d = absurd (d (defect-inside-alone t full rest n e l i))
 
-    level-lists : (k b d : ℕ) (i : T (inner t d)) → up t d ≢ b → RingLists k d (next t d) (afterOf t full rest d i) → LevelsList k b (up t d) → LevelsList (suc k) b d
-    unfolding LevelsList
-    level-lists k b d i u p q w l h j n =
-        let held = inside-join t (up t d) d (entry t b .touch) h (inside-ring-node t (up t d) d (i, refl)) in
-        let same = same-at-touch t full rest b (up t d) (entry t b .touch) (w .around) l refl held in
-        let here = ringListed k d (next t d) t in
-        let above = levelsListed k b (up t d) t in
-        rw (level-listed t k b d i u) (elim (inside-or-not t full rest (up t d) e) [
-          | inl z ↦ listed-left t e here above (level-ring k d i p (rw same l) (rw same h) z n)
-          | inr z ↦ listed-right t e here above (q (next-level t full rest b d w u) l held j z)
-        ])
+  in-a-blossom : (k b d : ℕ) → t .begin ≤ b → d < t .begin → OnLevels k b d → OnInside k b d
+  unfolding OnInside OnLevels
+  in-a-blossom k b d l h levels w q i n =
+      let own : DefectInside t d (entry t b .touch) = rw q (record { defect = h; inside = inside-self t d }) in
+      rw (inside-blossom-listed t k b d l) (levels (defect-within t full rest b d l w) own i (λ z. n (defect-inside-alone t full rest d e h z)))
 
-    end-lists : (k d : ℕ) → RingLists k d d []
-    unfolding RingLists
-    end-lists k d p c m i = absurd m
+  of-a-pair : (k n peer : ℕ) → Joined t n peer → OnInside k n (at t n .link .touch) → OnInside k peer (at t n .link .peerTouch) → OnPair (suc k) n peer
+  unfolding OnInside OnPair
+  of-a-pair k n peer j here there p q side = rw (pair-listed t k n peer (at t n .link)) (go side)
+    where
+      inside-n : List Record
+      inside-n = insideListed k n (at t n .link .touch) t
 
-    two-lists : (k d n : ℕ) (cs : List ℕ) → n ≢ d → PairLists k n (next t n) → RingLists k d (next t (next t n)) cs → RingLists (suc k) d n (n ∷ (next t n ∷ cs))
-    unfolding RingLists PairLists
-    two-lists k d n cs h p q r c m i = rw (ring-pair-listed t k d n h) (go m)
-      where
-        x : List Record
-        x = pairListed k n (next t n) (at t n .link) t
+      inside-peer : List Record
+      inside-peer = insideListed k peer (at t n .link .peerTouch) t
 
-        y : List Record
-        y = ringListed k d (next t (next t n)) t
+      own-touch : at t n .link .touch ≢ none
+      own-touch = not-none t full rest n (at t n .link .touch) (j .touch)
 
-        go : c ∈ (n ∷ (next t n ∷ cs)) → Listed t e (pairListed k n (next t n) (at t n .link) t ++ ringListed k d (next t (next t n)) t)
-        go (inl z) = listed-left t e x y (p (r .0) (r .1) (inl (rw z at i)))
-        go (inr (inl z)) = listed-left t e x y (p (r .0) (r .1) (inr (rw z at i)))
-        go (inr (inr z)) = listed-right t e x y (q (r .2) c z i)
+      peer-touch : at t n .link .peerTouch ≢ none
+      peer-touch = not-none t full rest peer (at t n .link .peerTouch) (j .peer-touch)
 
-    pub pair-lists-all : (k n peer : ℕ) → Joined t n peer → nodesInside t n + nodesInside t peer ≤ suc k → entry t n ≡ at t n .link → entry t peer ≡ mirror (at t n .link) → Inside t n e ⊎ Inside t peer e → Listed t e (pairListed k n peer (at t n .link) t)
-    unfolding PairLists
-    pair-lists-all =
-        on-every-pair t full rest PairLists InsideLists LevelsList RingLists defect-lists blossom-lists pair-lists last-lists level-lists end-lists two-lists
+      go : Inside t n e ⊎ Inside t peer e → Tells t e ((insideListed k n (at t n .link .touch) t ++ insideListed k peer (at t n .link .peerTouch) t) ++ (pairEntry (at t n .link) ∷ []))
+      go (inl i) =
+          elim (same-or-not e (at t n .link .touch)) [
+            | inl z ↦ tells-touch t e (at t n .link) (inside-n ++ inside-peer) own-touch peer-touch (at-touch n i (z ∙ sym (ap (λ (v : Link). v .touch) p)) ∙ p) (sym z)
+            | inr d ↦ tells-before t e (inside-n ++ inside-peer) (pairEntry (at t n .link) ∷ []) (tells-before t e inside-n inside-peer (here (j .touch) (ap (λ (v : Link). v .touch) p) i d))
+          ]
+      go (inr i) =
+          elim (same-or-not e (at t n .link .peerTouch)) [
+            | inl z ↦ tells-peer t e (at t n .link) (inside-n ++ inside-peer) own-touch peer-touch (at-touch peer i (z ∙ sym (ap (λ (v : Link). v .touch) q)) ∙ q) (sym z)
+            | inr d ↦ tells-before t e (inside-n ++ inside-peer) (pairEntry (at t n .link) ∷ []) (tells-behind t e inside-n inside-peer (there (j .peer-touch) (ap (λ (v : Link). v .touch) q) i d))
+          ]
 
-    pub inside-lists-all : (k n d : ℕ) → T (present t n) → DefectInside t n d → nodesInside t n ≤ suc k → Inside t n d → entry t n .touch ≡ d → Inside t n e → e ≢ d → Listed t e (insideListed k n d t)
-    unfolding InsideLists
-    inside-lists-all =
-        on-every-node t full rest PairLists InsideLists LevelsList RingLists defect-lists blossom-lists pair-lists last-lists level-lists end-lists two-lists
+  -- one level: e is inside a ring node after d
+  of-a-level : (k d : ℕ) (i : T (inner t d)) → OnRing k d (next t d) (afterOf t full rest d i) → DefectInside t d (entry t (up t d) .touch) → Inside t (up t d) e → ¬ Inside t d e → Tells t e (ringListed k d (next t d) t)
+  unfolding OnRing
+  of-a-level k d i ring h w n =
+      elim (inside-ring t (up t d) e w) [
+        | inl z ↦ absurd (omega (arith, rest .inners d i .parent .blossom))
+        | inr r ↦ ring (couple t full rest d i h) (r .0) (after-in-ring t full rest d i .all (r .0) (r .1) (λ z. n (rw z at (r .2)))) (r .2)
+      ]
+
+  of-the-last-level : (k b d : ℕ) (i : T (inner t d)) → up t d ≡ b → OnRing k d (next t d) (afterOf t full rest d i) → OnLevels (suc k) b d
+  unfolding OnLevels
+  of-the-last-level k b d i u ring w h j n =
+      rw (last-level-listed t k b d i u) (tells-before t e (ringListed k d (next t d) t) [] (of-a-level k d i ring (rw u h) (rw u j) n))
+
+  of-levels : (k b d : ℕ) (i : T (inner t d)) → up t d ≢ b → OnRing k d (next t d) (afterOf t full rest d i) → OnLevels k b (up t d) → OnLevels (suc k) b d
+  unfolding OnLevels
+  of-levels k b d i u ring higher w h j n =
+      let above = around t full rest d (entry t b .touch) i h in
+      let same = one-link t full rest b (up t d) (w .around) above in
+      rw (level-listed t k b d i u) (elim (inside-or-not t full rest (up t d) e) [
+        | inl z ↦ tells-before t e (ringListed k d (next t d) t) (levelsListed k b (up t d) t) (of-a-level k d i ring (rw same h) z n)
+        | inr z ↦ tells-behind t e (ringListed k d (next t d) t) (levelsListed k b (up t d) t) (higher (next-level t full rest b d w u) above j z)
+      ])
+
+  of-no-ring : (k d : ℕ) → OnRing k d d []
+  unfolding OnRing
+  of-no-ring k d links x m i = absurd m
+
+  of-a-ring : (k d n : ℕ) (cs : List ℕ) → n ≢ d → OnPair k n (next t n) → OnRing k d (next t (next t n)) cs → OnRing (suc k) d n (n ∷ (next t n ∷ cs))
+  unfolding OnRing OnPair
+  of-a-ring k d n cs apart pair others links x m i = rw (ring-pair-listed t k d n apart) (go m)
+    where
+      two : (entry t n ≡ at t n .link) × (entry t (next t n) ≡ mirror (at t n .link))
+      two = links n (next t n) now
+
+      first : List Record
+      first = pairListed k n (next t n) (at t n .link) t
+
+      further : List Record
+      further = ringListed k d (next t (next t n)) t
+
+      go : x ∈ (n ∷ (next t n ∷ cs)) → Tells t e (pairListed k n (next t n) (at t n .link) t ++ ringListed k d (next t (next t n)) t)
+      go (inl z) = tells-before t e first further (pair (two .0) (two .1) (inl (rw z at i)))
+      go (inr (inl z)) = tells-before t e first further (pair (two .0) (two .1) (inr (rw z at i)))
+      go (inr (inr z)) = tells-behind t e first further (others (λ a c q. links a c (later q)) x z i)
+
+  pub pair-tells : (k n peer : ℕ) → Joined t n peer → nodesInside t n + nodesInside t peer ≤ suc k → entry t n ≡ at t n .link → entry t peer ≡ mirror (at t n .link) → Inside t n e ⊎ Inside t peer e → Tells t e (pairListed k n peer (at t n .link) t)
+  unfolding OnPair
+  pair-tells = on-every-pair t full rest OnPair OnInside OnLevels OnRing in-a-defect in-a-blossom of-a-pair of-the-last-level of-levels of-no-ring of-a-ring
+
+  pub inside-tells : (k n d : ℕ) → T (present t n) → DefectInside t n d → nodesInside t n ≤ suc k → DefectInside t n d → entry t n .touch ≡ d → Inside t n e → e ≢ d → Tells t e (insideListed k n d t)
+  unfolding OnInside
+  inside-tells = on-every-node t full rest OnPair OnInside OnLevels OnRing in-a-defect in-a-blossom of-a-pair of-the-last-level of-levels of-no-ring of-a-ring

@@ -1,8 +1,9 @@
 pub mod SaidLaws
 pub mod EntryLaws
+pub mod RingTwos
 pub mod EntryTouches
 pub mod Budgets
 pub mod EntriesListed
-pub mod SlotEntries
+pub mod SlotsTell
 pub mod Answering
 pub mod AsListed

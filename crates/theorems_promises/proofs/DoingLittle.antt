@@ -28,7 +28,7 @@ use Rattle.rules.specs.Act.{World, worldOf}
 use Rattle.rules.specs.Calls.{actOf, verdict}
 use Rattle.rules.specs.Script.{meet, join}
 use Rattle.rules.proofs.Script.{all-rules}
-use Rattle.rules.specs.Partner.{entryWithin}
+use Rattle.rules.specs.Partner.{pairedWithin}
 use Rattle.outcome.specs.declared.partner.Partner.the-variants as P
 use Rattle.outcome.specs.Call.{Call}
 use Rattle.outcome.specs.Partner.{partnerOf}
@@ -168,7 +168,7 @@ one-fixed-table words words′ bytes₁ bytes₂ r₁ r₂ made h =
 
 -- one that answers nobody, whoever's partner is asked for: here where 0 and 1 are a pair
 pair-told : partnerKind (partnerOf (actOf (join 0 1) (fresh 128) .table) 0) ≡ 1
-unfolding all-rules entryWithin
+unfolding all-rules pairedWithin
 pair-told = refl
 
 pub always-nobody : (words : List ℕ) → tableOf words ≡ actOf (join 0 1) (fresh 128) .table → ¬ (P.Nobody ≡ partnerOf (tableOf words) 0)

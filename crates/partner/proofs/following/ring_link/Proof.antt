@@ -1,13 +1,13 @@
 use borrow.Author.Needs.{needs}
 use mathlib.Core.Path.{_≡_, refl, sym, _∙_}
 use Rattle.table.specs.Words.{tableOf}
-use Rattle.rules.specs.Partner.{ringLink}
+use Rattle.rules.specs.Partner.{linkInTwos}
 use Rattle.partner.proofs.FollowSteps.{no-link-left, first-link, second-link, further-link}
 use Rattle.partner.proofs.following.ring_link.Statement.{statement}
 use Rattle.partner.proofs.following.ring_link.Tie as tie
 
 abbrev Inv-loop : tie.InvT-loop
-Inv-loop t x first₀ left₀ first left = ringLink left (x .0) (first .0) (tableOf t) ≡ ringLink left₀ (x .0) (first₀ .0) (tableOf t)
+Inv-loop t x first₀ left₀ first left = linkInTwos left (tableOf t) (first .0) (x .0) ≡ linkInTwos left₀ (tableOf t) (first₀ .0) (x .0)
 
 abbrev μ-loop : tie.MeasureT-loop
 μ-loop t x first₀ left₀ first left = left
