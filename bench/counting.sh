@@ -1,11 +1,11 @@
 # shellcheck shell=sh
-# What bench/profile and bench/draw-growth share: the driver run under the emulator's plugin that counts instructions. Each reads
-# tools/common.sh first, and sets `dir`, where what is built goes.
+# What bench/run, bench/profile and bench/draw-growth share: programs run under the emulator's plugin that counts instructions. Each
+# reads tools/common.sh first, and sets `dir`, where what is built goes.
 
 # Looks for what counting needs besides the compiler.
 want_counter() {
     command -v gcc >/dev/null 2>&1 || lack "there is no compiler gcc, which builds the emulator's plugin: install the Debian packages gcc and libc6-dev"
-    command -v qemu-x86_64 >/dev/null 2>&1 || lack "there is no emulator qemu-x86_64: install the Debian package qemu-user"
+    emulator=$(command -v qemu-x86_64) || lack "there is no emulator qemu-x86_64: install the Debian package qemu-user"
 }
 
 # Builds the driver, and the plugin for the version of the interface that the emulator has.
@@ -25,17 +25,30 @@ build_counter() {
     exit 2
 }
 
-# count FILE TIMES WORDS..: the driver's work done so many times, counted by address into the file
+# count FILE PROGRAM WORDS..: what the program does, counted by address into the file; both are names in `dir`. The program has the same
+# name and no environment wherever it is run, so that its stack is always aligned alike: the C library's memset and memcpy depend on it.
 count() {
-    file=$1 times=$2
+    file=$1 program=$2
     shift 2
-    rm -f "$file"
-    qemu-x86_64 -plugin "$dir/blocks.so,out=$file" "$dir/driver" "$@" "$times" >"$dir/said" 2>&1 || {
+    rm -f "$dir/$file"
+    (cd "$dir" && exec env -i "$emulator" -plugin "./blocks.so,out=$file" "./$program" "$@") >"$dir/said" 2>&1 || {
         status=$?
         done_with_it
-        say "the driver does not do $*: $(cat "$dir/said")"
+        say "the instructions of $program $* cannot be counted; it says: $(cat "$dir/said")"
         [ $status -eq 1 ] || status=2
         exit $status
     }
-    [ -s "$file" ] || missing "the plugin wrote no counts to $file"
+    [ -s "$dir/$file" ] || missing "the plugin wrote no counts to $dir/$file"
+}
+
+# in_all FILE: the instructions that it counts
+in_all() { awk '{ n += $2 } END { printf "%d", n }' "$dir/$1"; }
+
+# tenth INPUT PROGRAM WORDS..: sets `tenth` to a tenth of the difference between the words with 11 and with 01 in the last place
+tenth() {
+    input=$1
+    shift
+    count counts.1 "$@" 01 <"$input"
+    count counts.11 "$@" 11 <"$input"
+    tenth=$((($(in_all counts.11) - $(in_all counts.1)) / 10))
 }

@@ -26,6 +26,8 @@
  *   meet     a new node
  *   hang     a node that is paired with another, so that the two go below a tree's node
  *   close    a tree's root, so that the way between becomes a blossom
+ *   end      in a tree of one path, the node two above: a blossom of three at the path's end
+ *   middle   the same half way down the path, between two nodes there
  */
 #include <stdint.h>
 #include <stdio.h>
@@ -57,7 +59,10 @@ static void meet(uint16_t a, uint16_t b, uint16_t touch_a, uint16_t touch_b)
 	must(boltclover_conflict(table, a, b, touch_a, touch_b, 1000 + touch_a, 1000 + touch_b, out, MOST, &written, &side) == 0, "a conflict is refused");
 }
 
-static void make(uint16_t begin) { must(boltclover_make(table, begin) == 0, "making is refused"); }
+/* whether the last slot is kept for a blossom */
+static int slot_kept;
+
+static void make(uint16_t begin) { must(boltclover_make(table, slot_kept && begin > 255 ? 255 : begin) == 0, "making is refused"); }
 
 /* where the next conflict is: a node with its touch, and the first defect that the table does not name */
 static uint16_t end, end_touch, unnamed;
@@ -158,7 +163,13 @@ static void conflict(const char *what, unsigned times, int requested)
 		length = request(unnamed, unnamed);
 	} else if (strcmp(what, "close") == 0)
 		length = request(0, 0);
-	must(length > 0, "a conflict is meet, hang or close");
+	else if (strcmp(what, "end") == 0 && end >= 2)
+		length = request(end - 2, end - 2);
+	else if (strcmp(what, "middle") == 0 && end >= 4) {
+		end = end_touch = end / 4 * 2;
+		length = request(end - 2, end - 2);
+	}
+	must(length > 0, "a conflict is meet, hang, close, or in a tree of five nodes or more end or middle");
 	if (!requested)
 		length = 0;
 	memcpy(before, table, sizeof table);
@@ -274,6 +285,7 @@ int main(int argc, char **argv)
 		printf("paired %lu\n", paired);
 	} else if (strcmp(argv[1], "conflict") == 0 || strcmp(argv[1], "before") == 0) {
 		must(argc == 5, "a table, a kind of conflict and a number");
+		slot_kept = is(argv[2], "tree") && strcmp(argv[3], "meet") != 0 && strcmp(argv[3], "hang") != 0;
 		build(argv[2]);
 		conflict(argv[3], times, strcmp(argv[1], "conflict") == 0);
 	} else {

@@ -3,4 +3,3 @@ pub mod SeenLaws
 pub mod ChecksSteps
 pub mod JudgingSteps
 pub mod TreesSteps
-pub mod Meets

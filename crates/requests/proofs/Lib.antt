@@ -1,2 +1,6 @@
+pub mod MeetingExamples
+pub mod MeetingSteps
+pub mod MeetingLaws
+pub mod MeetingFound
 pub mod ConflictsSteps
 pub mod VirtualConflictsSteps

@@ -1,1 +1,2 @@
-pub mod ByDepths
+pub mod Meeting
+pub mod Resolving

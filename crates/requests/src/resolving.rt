@@ -1,6 +1,5 @@
 // What an accepted conflict does (01, "What a conflict does"): the rows of the conflict table.
 use record::Conflict;
-use request_judging::trees;
 use slot::Link;
 use slot::Node;
 use table::Place;
@@ -13,40 +12,45 @@ ghost use Rattle.table.specs.declared.place.Place.the-variants as P;
 ghost use Rattle.table.specs.Place.{place};
 ghost use Rattle.rules.specs.Act.{worldOf, run};
 ghost use Rattle.rules.specs.Conflict.{treesMeet, rowOf, resolved, conflict};
-ghost use Rattle.requests.specs.ByDepths.{blossomByDepths};
+ghost use Rattle.requests.specs.Resolving.{Checked, CheckedOnceLoaded, metWithSlot, blossomAt};
 
-// A blossom of two nodes of one tree, which stand at these depths, in the next free slot.
-fn blossom_in_tree(
+// A blossom of two nodes of one tree, which meet at this node, in the next free slot.
+fn blossom_at(
     t: &mut Table,
     out: &mut [u8],
     pos: usize,
+    meeting: Node,
     x: Node,
     y: Node,
     link: Link,
-    depth_x: usize,
-    depth_y: usize,
 ) -> usize
-    ensures { λ r. ⌜ worldOf (now (t .exit)) (now (out .exit)) r ≡ run (worldOf (now (t .entry)) (now (out .entry)) pos) (blossomByDepths «depth_x» «depth_y» (x .0) (y .0) (linkOf link)) ⌝ }
+    ensures { λ r. ⌜ worldOf (now (t .exit)) (now (out .exit)) r ≡ run (worldOf (now (t .entry)) (now (out .entry)) pos) (blossomAt (meeting .0) (x .0) (y .0) (linkOf link)) ⌝ }
 {
     let next = table::counts::blossom_end(t);
     if next == 256 {
         return pos;
     }
     let given = table::counts::count_blossoms(t) + 1;
-    let meeting = trees::find_lowest_common_ancestor(t, x, y, depth_x, depth_y);
     request_blossom::create_blossom(t, out, pos, Node(next), given, meeting, x, y, link)
+}
+
+// Where two tree nodes meet, or none. Nobody climbs where no slot is left: 8 was asked, so there are two trees.
+fn meeting_of(t: &Table, x: Node, y: Node) -> Node
+    ensures { λ r. ⌜ r .0 ≡ metWithSlot (tableOf (now (t .entry))) (x .0) (y .0) ⌝ }
+{
+    if table::counts::blossom_end(t) == 256 {
+        return Node(slot::number::NO_NODE);
+    }
+    crate::meeting::find_lowest_common_ancestor(t, x, y)
 }
 
 // Two tree nodes: one tree makes a blossom, two trees are augmented, node_1's first.
 fn trees_meet(t: &mut Table, out: &mut [u8], pos: usize, x: Node, y: Node, link: Link) -> usize
-    ensures { λ r. ⌜ worldOf (now (t .exit)) (now (out .exit)) r ≡ run (worldOf (now (t .entry)) (now (out .entry)) pos) (treesMeet (x .0) (y .0) (linkOf link)) ⌝ }
+    ensures { λ r. ⌜ (Checked (tableOf (now (t .entry))) (x .0) (y .0) → worldOf (now (t .exit)) (now (out .exit)) r ≡ run (worldOf (now (t .entry)) (now (out .entry)) pos) (treesMeet (x .0) (y .0) (linkOf link))) ⌝ }
 {
-    let above_x = trees::way_up(t, x);
-    let above_y = trees::way_up(t, y);
-    let root_x = above_x.root;
-    let root_y = above_y.root;
-    if trees::one_root(root_x, root_y) {
-        return blossom_in_tree(t, out, pos, x, y, link, above_x.depth, above_y.depth);
+    let meeting = meeting_of(t, x, y);
+    if meeting.0 != slot::number::NO_NODE {
+        return blossom_at(t, out, pos, meeting, x, y, link);
     }
     let p = request_matching::augment_whole_tree(t, out, pos, x);
     let q = request_matching::augment_whole_tree(t, out, p, y);
@@ -117,7 +121,7 @@ fn resolve_virtual(t: &mut Table, out: &mut [u8], pos: usize, x: Node, y: Node, 
 }
 
 fn resolve_tree(t: &mut Table, out: &mut [u8], pos: usize, x: Node, y: Node, link: Link) -> usize
-    ensures { λ r. ⌜ worldOf (now (t .exit)) (now (out .exit)) r ≡ run (worldOf (now (t .entry)) (now (out .entry)) pos) (rowOf P.Tree (place (at (tableOf (now (t .entry))) (y .0))) (x .0) (y .0) (linkOf link)) ⌝ }
+    ensures { λ r. ⌜ (Checked (tableOf (now (t .entry))) (x .0) (y .0) → worldOf (now (t .exit)) (now (out .exit)) r ≡ run (worldOf (now (t .entry)) (now (out .entry)) pos) (rowOf P.Tree (place (at (tableOf (now (t .entry))) (y .0))) (x .0) (y .0) (linkOf link))) ⌝ }
 {
     match table::place::place_of(t, y) {
         Place::Free => {
@@ -143,7 +147,7 @@ fn resolve_tree(t: &mut Table, out: &mut [u8], pos: usize, x: Node, y: Node, lin
 
 // The row of the conflict table that the two nodes' places name.
 fn resolve(t: &mut Table, out: &mut [u8], pos: usize, x: Node, y: Node, link: Link) -> usize
-    ensures { λ r. ⌜ worldOf (now (t .exit)) (now (out .exit)) r ≡ run (worldOf (now (t .entry)) (now (out .entry)) pos) (resolved (x .0) (y .0) (linkOf link)) ⌝ }
+    ensures { λ r. ⌜ (Checked (tableOf (now (t .entry))) (x .0) (y .0) → worldOf (now (t .exit)) (now (out .exit)) r ≡ run (worldOf (now (t .entry)) (now (out .entry)) pos) (resolved (x .0) (y .0) (linkOf link))) ⌝ }
 {
     match table::place::place_of(t, x) {
         Place::Free => resolve_free(t, out, pos, x, y, link),
@@ -154,7 +158,7 @@ fn resolve(t: &mut Table, out: &mut [u8], pos: usize, x: Node, y: Node, link: Li
 }
 
 pub fn resolve_conflict(t: &mut Table, out: &mut [u8], pos: usize, c: Conflict) -> usize
-    ensures { λ r. ⌜ worldOf (now (t .exit)) (now (out .exit)) r ≡ run (worldOf (now (t .entry)) (now (out .entry)) pos) (conflict c) ⌝ }
+    ensures { λ r. ⌜ (CheckedOnceLoaded c (tableOf (now (t .entry))) → worldOf (now (t .exit)) (now (out .exit)) r ≡ run (worldOf (now (t .entry)) (now (out .entry)) pos) (conflict c)) ⌝ }
 {
     let node_1 = c.node_1;
     let node_2 = c.node_2;

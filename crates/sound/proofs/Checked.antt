@@ -33,7 +33,8 @@ use Rattle.theorems_soundness.proofs.SoundParts.{sound→rule, sound→core, so
 use Rattle.sound_walks.specs.Pass.{allFrom}
 use Rattle.sound_slots.specs.Links.{ringPlaced}
 use Rattle.sound.specs.OneSlot.{slotHolds, isVacant, vacantOf, ruleOf}
-use Rattle.sound_walks.specs.Marks.{Judged, sweep, marked}
+use Rattle.table.specs.Marks.{marked}
+use Rattle.sound_walks.specs.Marks.{Judged, sweep}
 use Rattle.sound_walks.specs.Lists.{listStep}
 use Rattle.sound_walks.specs.Depths.{wayStep}
 use Rattle.sound_walks.proofs.Truth.{lie, bool-ext, and-left, and-right, and-both, range-to, range-from}

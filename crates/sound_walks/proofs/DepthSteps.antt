@@ -16,7 +16,8 @@ use Rattle.table.specs.Words.{tableOf}
 use Rattle.table.proofs.WordsOfSlots.{at-past}
 use Rattle.table.specs.Nodes.{inner}
 use Rattle.rules.specs.Slots.{up}
-use Rattle.sound_walks.specs.Marks.{marked, Judged, judgedOf}
+use Rattle.table.specs.Marks.{marked}
+use Rattle.sound_walks.specs.Marks.{Judged, judgedOf}
 use Rattle.sound_walks.specs.Depths.{measured, recorded, depthStep, wayStep}
 
 pred : (k : ℕ) → suc k - 1 ≡ k

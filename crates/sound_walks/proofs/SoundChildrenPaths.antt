@@ -14,7 +14,8 @@ use Rattle.table.specs.Nodes.{outer}
 use Rattle.rules.specs.Slots.{up, next}
 use Rattle.rules.specs.Walk.{walk, ends, isIn, allIn, allBelow}
 use Rattle.rules.specs.Sound.{_⇒_, children, isOuterChild, s5}
-use Rattle.sound_walks.specs.Marks.{marked, Walked, marking, Judged, judgedOf, sweep}
+use Rattle.table.specs.Marks.{marked}
+use Rattle.sound_walks.specs.Marks.{Walked, marking, Judged, judgedOf, sweep}
 use Rattle.sound_walks.proofs.Truth.{by-cases, and-left, and-right, and-both, when, if-then, all-to, all-from, in-all}
 use Rattle.sound_walks.proofs.Walks.{unseen, small, good, marking-length, walk-length, marking-count, marking-seen}
 use Rattle.sound_walks.proofs.Sweeps.{pass-fine, pass-whole, fine-pass, fine-claim}

@@ -5,15 +5,11 @@ use mathlib.Core.Bool.{Bool, true, false}
 use Prim.Native.Nat.{ℕ, zero, suc, _+_, _-_, _≤_, _<_}
 use native.Mathlib.Numerals.{add-one}
 use native.Mathlib.Omega.{arith}
-use lib.ListN.{length, set, List·getD-eq-default}
+use lib.ListN.{set}
 use borrow.Author.Tests.{eq-eqb, ne-eqb}
 use Rattle.lists.proofs.Budget.{fewer, one-left, none-left}
 use Rattle.slot.specs.Number.{none}
-use Rattle.sound_walks.specs.Marks.{marked, walkedOf, marking, Judged, judgedOf, sweep}
-
-pub marked-past : (l : List ℕ) (n : ℕ) → length l ≤ n → false ≡ marked l n
-unfolding marked
-marked-past l n h = rw (List·getD-eq-default l 0 h)
+use Rattle.sound_walks.specs.Marks.{walkedOf, marking, Judged, judgedOf, sweep}
 
 -- ---- a walk
 

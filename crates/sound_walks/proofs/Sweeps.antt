@@ -10,9 +10,10 @@ use Rattle.lists.specs.Choice.{pick}
 use Rattle.table.specs.Table.{Table}
 use Rattle.rules.specs.Slots.{up}
 use Rattle.rules.specs.Walk.{isIn}
-use Rattle.sound_walks.specs.Marks.{marked, Judged, judgedOf, sweep}
+use Rattle.table.specs.Marks.{marked}
+use Rattle.sound_walks.specs.Marks.{Judged, judgedOf, sweep}
 use Rattle.sound_walks.proofs.Truth.{lie, by-cases, or-left, or-right, or-elim}
-use Rattle.sound_walks.proofs.Walks.{marked-none}
+use Rattle.table.proofs.MarkLaws.{marked-none}
 
 -- ---- one step of a pass
 

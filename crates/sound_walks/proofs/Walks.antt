@@ -1,35 +1,23 @@
 -- A marking walk passes the nodes of the rules' walk: how many, and which marks it leaves.
 use mathlib.Core.Path.{_≡_, ap, _∙_}
 use mathlib.Core.List.{List}
-use mathlib.Core.Bool.{Bool, true, false, _&&_, _||_, or-false, or-true, or-assoc, and-false}
+use mathlib.Core.Bool.{Bool, true, false, _&&_, _||_, or-false, or-assoc, and-false}
 use Prim.Native.Nat.{ℕ, zero, suc, _+_, _≤_, _<_}
-use native.Mathlib.Decide.{ℕ-discrete}
 use native.Mathlib.Omega.{arith}
 use lib.Dec.{eqb}
-use lib.ListN.{length, getD, set, replicate, length-set, getD-replicate}
-use lib.Seq.{getD-set-same, getD-set-other}
-use borrow.Author.Tests.{eq-eqb, ne-eqb}
+use lib.ListN.{length, set, replicate, length-set}
+use borrow.Author.Tests.{ne-eqb}
 use Rattle.lists.specs.Choice.{pick}
 use Rattle.slot.specs.Number.{none}
 use Rattle.rules.specs.Slots.{isNone}
 use Rattle.rules.specs.Walk.{walk, ends, isIn, allIn}
-use Rattle.sound_walks.specs.Marks.{marked, marking}
+use Rattle.table.specs.Marks.{marked}
+use Rattle.table.proofs.MarkLaws.{marked-set}
+use Rattle.sound_walks.specs.Marks.{marking}
 use Rattle.sound_walks.proofs.Truth.{lie, by-cases, and-left, and-right, and-both}
 
 abbrev pub unseen : List ℕ
 unseen = replicate 256 0
-
-pub marked-none : (j : ℕ) → j < 256 → marked (replicate 256 0) j ≡ false
-unfolding marked
-marked-none j h = rw (getD-replicate {A = ℕ} 256 j 0 0 h)
-
-pub marked-set : (l : List ℕ) (n j : ℕ) → j < length l → marked (set l n 1) j ≡ (marked l j || eqb j n)
-unfolding marked
-marked-set l n j h = go (ℕ-discrete j n)
-  where
-    go : Dec (j ≡ n) → eqb (getD (set l n 1) j 0) 1 ≡ (eqb (getD l j 0) 1 || eqb j n)
-    go (yes e) = rw (eq-eqb j n e, or-true, ← e, getD-set-same l j 1 0 h)
-    go (no e) = rw (ne-eqb j n e, or-false, getD-set-other l n j 1 0 e)
 
 -- a count is not none
 pub small : (n : ℕ) → n ≤ 256 → eqb n none ≡ false

@@ -15,7 +15,8 @@ use Rattle.table.specs.Nodes.{inner}
 use Rattle.rules.specs.Slots.{isNone, up}
 use Rattle.rules.specs.Walk.{ends}
 use Rattle.sound_walks.specs.Pass.{allFrom}
-use Rattle.sound_walks.specs.Marks.{marked, Judged, judgedOf, sweep}
+use Rattle.table.specs.Marks.{marked}
+use Rattle.sound_walks.specs.Marks.{Judged, judgedOf, sweep}
 use Rattle.sound_walks.specs.Depths.{measured, recorded, depthStep, wayStep}
 use Rattle.sound_walks.proofs.Truth.{lie, bool-ext, by-cases, and-left, and-right, and-both, or-left, or-right}
 use Rattle.sound_walks.proofs.Sweeps.{sweep-zero, sweep-on, sweep-off}

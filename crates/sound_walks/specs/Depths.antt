@@ -9,7 +9,8 @@ use Rattle.slot.specs.Number.{none}
 use Rattle.table.specs.Table.{Table}
 use Rattle.table.specs.Nodes.{inner}
 use Rattle.rules.specs.Slots.{isNone, up}
-use Rattle.sound_walks.specs.Marks.{marked, Judged, judgedOf}
+use Rattle.table.specs.Marks.{marked}
+use Rattle.sound_walks.specs.Marks.{Judged, judgedOf}
 
 -- c more than the steps from n along parents to none; none if there are more than k to a node whose depth is known
 unfoldable pub measured : Table → List ℕ → ℕ → ℕ → ℕ → ℕ

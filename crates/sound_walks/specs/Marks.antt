@@ -1,15 +1,11 @@
--- A mark for each slot, walks that mark what they pass, and passes over the slots.
+-- Walks that mark what they pass, and passes over the slots.
 use Prim.Native.Nat.{ℕ, zero, suc, _+_}
 use mathlib.Core.Bool.{Bool, true}
 use mathlib.Core.List.{List}
-use lib.Dec.{eqb}
-use lib.ListN.{getD, set}
+use lib.ListN.{set}
 use Rattle.lists.specs.Choice.{pick}
 use Rattle.slot.specs.Number.{none}
 use Rattle.rules.specs.Slots.{isNone}
-
-unfoldable pub marked : List ℕ → ℕ → Bool
-marked l n = eqb (getD l n 0) 1
 
 -- ---- a walk
 

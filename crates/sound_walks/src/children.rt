@@ -1,8 +1,8 @@
 // Child lists (S5): each list is walked and its nodes are marked. Only outer nodes have one.
-use crate::marks;
 use slot::Node;
 use sound_slots::truth::both;
 use table::Table;
+use table::marks;
 ghost use mathlib.Core.Path.{_≡_};
 ghost use Prim.Native.Nat.{_-_};
 ghost use Rattle.table.specs.Words.{tableOf};

@@ -3,6 +3,5 @@
 // a number. Depths are remembered, so no node is climbed twice.
 pub mod children;
 pub mod depths;
-pub mod marks;
 pub mod numbers;
 pub mod ways;

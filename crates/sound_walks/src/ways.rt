@@ -1,8 +1,8 @@
 // The last pass (S5, S7): every outer node that has a parent was marked on its parent's list, and the way up from it ends.
 use crate::depths;
-use crate::marks;
 use slot::Node;
 use table::Table;
+use table::marks;
 ghost use mathlib.Core.Path.{_≡_};
 ghost use Prim.Native.Nat.{_-_};
 ghost use Rattle.table.specs.Words.{tableOf};

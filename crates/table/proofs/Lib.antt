@@ -9,3 +9,4 @@ pub mod Climbs
 pub mod NodesExamples
 pub mod PresentDefects
 pub mod PlaceSteps
+pub mod MarkLaws

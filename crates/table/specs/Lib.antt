@@ -7,3 +7,4 @@ pub mod Making
 pub mod Nodes
 pub mod Climb
 pub mod Place
+pub mod Marks

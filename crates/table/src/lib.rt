@@ -4,6 +4,7 @@ pub mod climb;
 pub mod counts;
 pub mod field;
 pub mod layout;
+pub mod marks;
 pub mod numbers;
 pub mod place;
 pub mod storing;

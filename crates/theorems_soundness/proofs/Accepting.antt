@@ -12,6 +12,7 @@ use Rattle.slot.specs.State.{isPresent}
 use Rattle.slot.specs.Number.{none}
 use Rattle.slot.specs.Slot.{Slot, newNode}
 use Rattle.table.specs.Table.{Table, at}
+use Rattle.table.specs.Nodes.{outer}
 use Rattle.table.specs.Climb.{inside}
 use Rattle.table.specs.declared.place.Place.the-variants as P
 use Rattle.table.specs.Place.{inTree, place}
@@ -132,12 +133,15 @@ module _ (t : Table) (c : Conflict) (w : Whole t) (ok : Acceptable t c) where
   kept = kept-then t t₁ t₂ (first .kept) (second .kept)
 
   -- "one tree", as the checks see it
-  makes : OneTree t₂ x y (conflictLink c) → T (makesBlossom t x y)
-  makes h =
-      let a : T (inTree (seen t x)) = rw t₂-x at (place-tree (at t₂ x) (h .place-1)) in
-      let b : T (inTree (seen t y)) = rw t₂-y at (place-tree (at t₂ y) (h .place-2)) in
-      let s : T (sameTree t x y) = rw (same-tree-same t t₂ ups x y) at (h .same) in
+  makes-in-tree : T (inTree (at t₂ x)) → T (inTree (at t₂ y)) → T (sameTree t₂ x y) → T (makesBlossom t x y)
+  makes-in-tree p q r =
+      let a : T (inTree (seen t x)) = rw t₂-x at p in
+      let b : T (inTree (seen t y)) = rw t₂-y at q in
+      let s : T (sameTree t x y) = rw (same-tree-same t t₂ ups x y) at r in
       →and (inTree (seen t x) && inTree (seen t y)) (sameTree t x y) (→and (inTree (seen t x)) (inTree (seen t y)) a b) s
+
+  makes : OneTree t₂ x y (conflictLink c) → T (makesBlossom t x y)
+  makes h = makes-in-tree (place-tree (at t₂ x) (h .place-1)) (place-tree (at t₂ y) (h .place-2)) (h .same)
 
   slot-left : T (makesBlossom t x y) → ¬ T (lacksBlossomSlot t₂)
   slot-left m h =
@@ -151,6 +155,29 @@ module _ (t : Table) (c : Conflict) (w : Whole t) (ok : Acceptable t c) where
       rw (conflict-table t c)
       (resolved-whole t₂ x y (conflictLink c) (second .whole) (ok .two) (right-kept t t₂ x (conflictLink c) y kept right)
       (rw t₂-x (ok .outer-1)) (rw t₂-y (ok .outer-2)) (rw t₂-x (ok .not-minus-1)) (rw t₂-y (ok .not-minus-2)) h)
+
+-- the two nodes once they are loaded: on a sound table, outer, and with a slot left where one tree makes a blossom
+pub record BothLoaded (t : Table) (x y : ℕ) : Type 0 where
+  pub whole : Whole t
+  pub two : x ≢ y
+  pub outer-1 : T (outer t x)
+  pub outer-2 : T (outer t y)
+  pub slot : T (inTree (at t x)) → T (inTree (at t y)) → T (sameTree t x y) → ¬ T (lacksBlossomSlot t)
+
+pub both-loaded :
+    (t : Table) (room : ℕ) (c : Conflict)
+    → Whole t
+    → verdict (Q.Conflict c) t room ≡ W.Accepted
+    → BothLoaded (loaded (c .«node_2» .0) (loaded (c .«node_1» .0) t)) (c .«node_1» .0) (c .«node_2» .0)
+both-loaded t room c w e =
+    let ok = acceptable t room c e in
+    record {
+      whole = second t c w ok .whole;
+      two = ok .two;
+      outer-1 = rw (t₂-x t c w ok) (ok .outer-1);
+      outer-2 = rw (t₂-y t c w ok) (ok .outer-2);
+      slot = λ p q s. slot-left t c w ok (makes-in-tree t c w ok p q s);
+    }
 
 -- every row, if making a blossom keeps a sound table sound
 pub conflict-keeps-by : (t : Table) (room : ℕ) (c : Conflict) → Whole t → verdict (Q.Conflict c) t room ≡ W.Accepted → BlossomKeeps c → Whole (conflict c t .table)

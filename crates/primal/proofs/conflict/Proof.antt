@@ -15,4 +15,6 @@ conflict-spec =
     (λ c. refused-by _ _ _ _ _ _ _ (unsound-verdict _ _ _ (sym (c .before .is-sound .ensures) ∙ not-true _ (c .if1 .taken))))
     (λ c κs. search needs)
     (λ c. search needs)
-    (λ c. same-outcome _ _ _ _ _ _ _ _ _ (sound-verdict _ _ _ (sym (c .before .before .before .before .before .before .is-sound .ensures) ∙ not-false _ (c .before .before .before .before .before .if1 .left))) (rw sub-zero at (c .before .before .conflict .ensures))))
+    (λ c.
+    let s = sym (c .before .before .before .before .before .before .is-sound .ensures) ∙ not-false _ (c .before .before .before .before .before .if1 .left) in
+    same-outcome _ _ _ _ _ _ _ _ _ (sound-verdict _ _ _ s) (rw sub-zero at ((c .before .before .conflict .ensures) s))))

@@ -8,4 +8,4 @@ serve-conflict-spec = tie.close (tie.spec
     (λ c κs. search needs)
     (λ c κs. search needs)
     (λ c. search needs)
-    (λ c. served-step _ _ _ _ _ _ _ _ _ (λ _. c .before .before .before .before .before .before .conflict .ensures) (c .before .before .end .ensures)))
+    (λ c. served-step _ _ _ _ _ _ _ _ _ (c .before .before .before .before .before .before .conflict .ensures) (c .before .before .end .ensures)))

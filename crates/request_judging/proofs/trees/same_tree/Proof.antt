@@ -1,4 +1,4 @@
-use Rattle.request_judging.proofs.TreesSteps.{by-ways}
+use Rattle.request_judging.proofs.TreesSteps.{no-root, by-roots}
 use borrow.Author.Needs.{needs}
 use Rattle.request_judging.proofs.trees.same_tree.Statement.{statement}
 use Rattle.request_judging.proofs.trees.same_tree.Tie as tie
@@ -8,6 +8,6 @@ same-tree-spec =
     tie.close
     (tie.spec
     (λ c κs. search needs)
+    (λ c. no-root _ _ _ _ (c .before .before .root-of .ensures) (c .if1 .taken))
     (λ c κs. search needs)
-    (λ c κs. search needs)
-    (λ c. by-ways _ _ _ _ _ _ (c .before .before .before .before .way-up .ensures .0) (c .before .before .way-up2 .ensures .0) (c .one-root .ensures)))
+    (λ c. by-roots _ _ _ _ (c .before .before .before .before .before .root-of .ensures) _ (c .before .before .before .if1 .left) (c .before .before .root-of2 .ensures)))

@@ -1,5 +1,5 @@
-use Rattle.requests.proofs.ConflictsSteps.{by-roots, one-tree, two-trees}
 use Rattle.table.proofs.WordsOfSlots.{slots-length}
+use Rattle.requests.proofs.ConflictsSteps.{one-tree, two-trees}
 use borrow.Author.Needs.{needs}
 use Rattle.requests.proofs.resolving.trees_meet.Statement.{statement}
 use Rattle.requests.proofs.resolving.trees_meet.Tie as tie
@@ -10,12 +10,10 @@ trees-meet-spec =
     (tie.spec
     (λ c κs. search needs)
     (λ c κs. search needs)
-    (λ c κs. search needs)
-    (λ c κs. search needs)
     (λ c. search needs)
-    (λ c. one-tree _ _ _ _ _ _ _ (slots-length _) (by-roots _ _ _ _ _ _ _ (c .before .before .before .before .before .before .before .before .before .before .before .way-up .ensures .0) (c .before .before .before .before .before .before .before .before .before .way-up2 .ensures .0) (c .before .before .before .before .before .before .one-root .ensures) (c .before .before .before .before .before .if1 .taken)) (c .before .before .before .before .before .before .before .before .before .before .before .way-up .ensures .1) (c .before .before .before .before .before .before .before .before .before .way-up2 .ensures .1) (c .before .before .blossom-in-tree .ensures))
+    (λ c ok. one-tree _ _ _ _ _ (slots-length _) (c .before .before .before .before .before .before .before .meeting-of .ensures) ok _ (c .before .before .before .before .before .if1 .taken) (c .before .before .blossom-at .ensures))
     (λ c κs. search needs)
     (λ c κs. search needs)
     (λ c κs. search needs)
     (λ c. search needs)
-    (λ c. two-trees _ _ _ _ _ _ _ (by-roots _ _ _ _ _ _ _ (c .before .before .before .before .before .before .before .before .before .before .before .before .before .before .before .before .before .before .before .before .before .way-up .ensures .0) (c .before .before .before .before .before .before .before .before .before .before .before .before .before .before .before .before .before .before .before .way-up2 .ensures .0) (c .before .before .before .before .before .before .before .before .before .before .before .before .before .before .before .before .one-root .ensures) (c .before .before .before .before .before .before .before .before .before .before .before .before .before .before .before .if1 .left)) (c .before .before .before .before .before .before .before .before .before .before .before .before .augment-whole-tree .ensures) (c .before .before .before .before .before .before .before .augment-whole-tree2 .ensures) (c .before .before .temporary-match .ensures)))
+    (λ c ok. two-trees _ _ _ _ _ (slots-length _) (c .before .before .before .before .before .before .before .before .before .before .before .before .before .before .before .before .before .meeting-of .ensures) ok _ _ _ (c .before .before .before .before .before .before .before .before .before .before .before .before .before .before .before .if1 .left) (c .before .before .before .before .before .before .before .before .before .before .before .before .augment-whole-tree .ensures) (c .before .before .before .before .before .before .before .augment-whole-tree2 .ensures) (c .before .before .temporary-match .ensures)))

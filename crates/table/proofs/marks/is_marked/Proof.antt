@@ -1,9 +1,9 @@
-use Rattle.sound_walks.proofs.SoundMarksSteps.{marked-past}
-use Rattle.sound_walks.specs.Marks.{marked}
+use Rattle.table.proofs.MarkLaws.{marked-past}
+use Rattle.table.specs.Marks.{marked}
 use mathlib.Core.Path.{refl}
 use borrow.Author.Needs.{needs}
-use Rattle.sound_walks.proofs.marks.is_marked.Statement.{statement}
-use Rattle.sound_walks.proofs.marks.is_marked.Tie as tie
+use Rattle.table.proofs.marks.is_marked.Statement.{statement}
+use Rattle.table.proofs.marks.is_marked.Tie as tie
 
 pub is-marked-spec : {M : Type 1} → statement M
 unfolding marked

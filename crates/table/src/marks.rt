@@ -1,8 +1,8 @@
-// A mark for each slot, in lent memory. Past its end there is nothing to read and nothing to change.
+// A mark for each slot, in memory lent beside the table. Past its end there is nothing to read and nothing to change.
 use slot::Node;
 ghost use mathlib.Core.Path.{_≡_};
 ghost use lib.ListN.{set};
-ghost use Rattle.sound_walks.specs.Marks.{marked};
+ghost use Rattle.table.specs.Marks.{marked};
 
 pub fn mark(seen: &mut [u8], n: Node)
     ensures { λ _. ⌜ now (seen .exit) ≡ set (now (seen .entry)) (n .0) 1 ⌝ }

@@ -1,8 +1,8 @@
 use lib.Seq.{set-out}
 use mathlib.Core.Path.{sym}
 use borrow.Author.Needs.{needs}
-use Rattle.sound_walks.proofs.marks.mark.Statement.{statement}
-use Rattle.sound_walks.proofs.marks.mark.Tie as tie
+use Rattle.table.proofs.marks.mark.Statement.{statement}
+use Rattle.table.proofs.marks.mark.Tie as tie
 
 pub mark-spec : {M : Type 1} → statement M
 mark-spec = tie.close (tie.spec
