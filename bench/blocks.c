@@ -5,12 +5,12 @@
  * writes to FILE, when the program ends, a line `ADDRESS COUNT` for every instruction that was translated, both decimal. A block of
  * instructions is translated as one and may be translated again, so an address can have several lines, which are to be added up.
  *
- * An instruction that stands on two pages is translated only as the first of a block. Where it comes later the emulator ends the
- * block before it, but tells the plugin of it all the same: it is not counted there. Otherwise a count would depend on where the
- * linker puts the code.
+ * An instruction that stands on two pages is translated only as the first of a block. Where it comes later the emulator, from 7.2 on,
+ * ends the block before it, but tells the plugin of it all the same: it is not counted there. Otherwise a count would depend on where
+ * the linker puts the code.
  *
  * Only what every version of the plugin interface has is used, declared here since few systems have its header. The version that the
- * emulator wants is set by -DVERSION; bench/profile tries them.
+ * emulator wants is set by -DVERSION; bench/counting.sh tries them.
  */
 #include <inttypes.h>
 #include <stddef.h>

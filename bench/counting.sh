@@ -8,6 +8,16 @@ want_counter() {
     emulator=$(command -v qemu-x86_64) || lack "there is no emulator qemu-x86_64: install the Debian package qemu-user"
 }
 
+# emulate FILE PROGRAM WORDS..: runs the program and counts by address into the file; both are names in `dir`, and what the program says
+# goes to `said` there. The program has the same name and no environment wherever that is, so that its stack is aligned alike: on that the
+# C library's memset and memcpy depend.
+emulate() {
+    file=$1 program=$2
+    shift 2
+    rm -f "$dir/$file"
+    (cd "$dir" && exec env -i "$emulator" -plugin "./blocks.so,out=$file" "./$program" "$@") >"$dir/said" 2>&1
+}
+
 # Builds the driver, and the plugin for the version of the interface that the emulator has.
 build_counter() {
     build "$dir/driver" -Iinclude bench/driver.c tools/src/deep.c || missing "bench/driver.c could not be built with $cc; its words stand above"
@@ -17,34 +27,31 @@ build_counter() {
     for version in 1 2 3 4 5 6; do
         gcc -shared -fPIC -O2 -Wall -Wextra -DVERSION=$version bench/blocks.c -o "$dir/blocks.so" ||
             missing "bench/blocks.c could not be built with gcc; its words stand above"
-        rm -f "$dir/counts"
-        if qemu-x86_64 -plugin "$dir/blocks.so,out=$dir/counts" "$dir/small" >"$dir/said" 2>&1 && [ -s "$dir/counts" ]; then return; fi
+        if emulate counts small && [ -s "$dir/counts" ]; then return; fi
     done
     say "the emulator qemu-x86_64 does not take the plugin bench/blocks.c; it says:"
     quote "$dir/said"
     exit 2
 }
 
-# count FILE PROGRAM WORDS..: what the program does, counted by address into the file; both are names in `dir`. The program has the same
-# name and no environment wherever it is run, so that its stack is always aligned alike: the C library's memset and memcpy depend on it.
+# count FILE PROGRAM WORDS..: the same, or the end of the script
 count() {
-    file=$1 program=$2
-    shift 2
-    rm -f "$dir/$file"
-    (cd "$dir" && exec env -i "$emulator" -plugin "./blocks.so,out=$file" "./$program" "$@") >"$dir/said" 2>&1 || {
+    emulate "$@" || {
         status=$?
+        shift
         done_with_it
-        say "the instructions of $program $* cannot be counted; it says: $(cat "$dir/said")"
+        say "the instructions of $* cannot be counted; it says: $(cat "$dir/said")"
         [ $status -eq 1 ] || status=2
         exit $status
     }
-    [ -s "$dir/$file" ] || missing "the plugin wrote no counts to $dir/$file"
+    [ -s "$dir/$1" ] || missing "the plugin wrote no counts to $dir/$1"
 }
 
 # in_all FILE: the instructions that it counts
 in_all() { awk '{ n += $2 } END { printf "%d", n }' "$dir/$1"; }
 
-# tenth INPUT PROGRAM WORDS..: sets `tenth` to a tenth of the difference between the words with 11 and with 01 in the last place
+# tenth INPUT PROGRAM WORDS..: sets `tenth` to a tenth of the difference between the words with 11 and with 01 in the last place, which are
+# equally long
 tenth() {
     input=$1
     shift

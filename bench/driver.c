@@ -6,7 +6,8 @@
  *   driver partner TABLE DEFECT TIMES   the question for a defect's partner, with the soundness check; `all` asks for each defect once
  *   driver reset TIMES                  emptying a table
  *   driver conflict TABLE WHAT TIMES    a run of one conflict on a table: its soundness check, and the request
- *   driver before TABLE WHAT TIMES      the same run without the request, to be taken off
+ *   driver baseline TABLE WHAT TIMES    the same run without the request, to be taken off; the two words are equally long, so that the
+ *                                       stack is aligned alike
  *   driver stack TABLE                  the bytes of stack that the deepest calls on a table touch
  *
  * TABLE is one of these, where N is a size and `NAME:N` another than what it has without:
@@ -28,6 +29,7 @@
  *   close    a tree's root, so that the way between becomes a blossom
  *   end      in a tree of one path, the node two above: a blossom of three at the path's end
  *   middle   the same half way down the path, between two nodes there
+ *   leaf     in a tree of one path, the last leaf of another tree like it: both are taken apart
  */
 #include <stdint.h>
 #include <stdio.h>
@@ -152,7 +154,8 @@ static size_t request(uint16_t node_2, uint16_t touch_2)
 	return at - tape;
 }
 
-static void conflict(const char *what, unsigned times, int requested)
+/* path: the table is a tree of one path */
+static void conflict(const char *what, int path, unsigned times, int requested)
 {
 	static uint16_t before[BOLTCLOVER_TABLE_WORDS];
 	size_t length = 0;
@@ -163,13 +166,19 @@ static void conflict(const char *what, unsigned times, int requested)
 		length = request(unnamed, unnamed);
 	} else if (strcmp(what, "close") == 0)
 		length = request(0, 0);
-	else if (strcmp(what, "end") == 0 && end >= 2)
+	else if (path && strcmp(what, "end") == 0 && end >= 2)
 		length = request(end - 2, end - 2);
-	else if (strcmp(what, "middle") == 0 && end >= 4) {
+	else if (path && strcmp(what, "middle") == 0 && end >= 4) {
 		end = end_touch = end / 4 * 2;
 		length = request(end - 2, end - 2);
+	} else if (path && strcmp(what, "leaf") == 0 && end < 128) {
+		for (uint16_t k = 1; k < unnamed; k += 2)
+			meet(unnamed + k, unnamed + k + 1, unnamed + k, unnamed + k + 1);
+		for (uint16_t k = 1; k < unnamed; k += 2)
+			meet(unnamed + k - 1, unnamed + k, unnamed + k - 1, unnamed + k);
+		length = request(unnamed + end, unnamed + end);
 	}
-	must(length > 0, "a conflict is meet, hang, close, or in a tree of five nodes or more end or middle");
+	must(length > 0, "a conflict is meet, hang, close, or in a tree end (of three nodes or more), middle (of five or more) or leaf (of 127 or fewer)");
 	if (!requested)
 		length = 0;
 	memcpy(before, table, sizeof table);
@@ -207,6 +216,8 @@ static void match(void)
 	uint16_t side;
 	must(boltclover_virtual_conflict(table, node, touch, 1, 2, out, MOST, &written, &side) == 0, "the virtual conflict is refused");
 }
+
+static void meet_new(void) { meet(end, unnamed, end_touch, unnamed); }
 
 static unsigned long paired;
 
@@ -251,6 +262,8 @@ static void measure(const char *name)
 		build(name);
 		node = touch = 0;
 		printf("virtual conflict at the root %zu\n", touched(match) - own);
+		build(name);
+		printf("conflict of the last node and a new one %zu\n", touched(meet_new) - own);
 	} else if (is(name, "nested") || is(name, "outside")) {
 		node = end;
 		touch = end_touch;
@@ -263,7 +276,7 @@ static void measure(const char *name)
 
 int main(int argc, char **argv)
 {
-	must(argc >= 3, "run TIMES | sound TABLE TIMES | list TABLE TIMES | partner TABLE DEFECT TIMES | reset TIMES | conflict TABLE WHAT TIMES | before TABLE WHAT TIMES | stack TABLE");
+	must(argc >= 3, "run TIMES | sound TABLE TIMES | list TABLE TIMES | partner TABLE DEFECT TIMES | reset TIMES | conflict TABLE WHAT TIMES | baseline TABLE WHAT TIMES | stack TABLE");
 	/* what is counted is the calls alone: the words are read before */
 	int times = atoi(argv[argc - 1]);
 	if (strcmp(argv[1], "run") == 0) {
@@ -283,11 +296,12 @@ int main(int argc, char **argv)
 			for (int defect = first; defect <= last; defect++)
 				ask(defect);
 		printf("paired %lu\n", paired);
-	} else if (strcmp(argv[1], "conflict") == 0 || strcmp(argv[1], "before") == 0) {
+	} else if (strcmp(argv[1], "conflict") == 0 || strcmp(argv[1], "baseline") == 0) {
 		must(argc == 5, "a table, a kind of conflict and a number");
-		slot_kept = is(argv[2], "tree") && strcmp(argv[3], "meet") != 0 && strcmp(argv[3], "hang") != 0;
+		int path = is(argv[2], "tree");
+		slot_kept = path && strcmp(argv[3], "meet") != 0 && strcmp(argv[3], "hang") != 0;
 		build(argv[2]);
-		conflict(argv[3], times, strcmp(argv[1], "conflict") == 0);
+		conflict(argv[3], path, times, strcmp(argv[1], "conflict") == 0);
 	} else {
 		boltclover_size written = 0;
 		must(argc == 4, "a table and a number");

@@ -108,7 +108,8 @@ static void stored_tape(const char *begin, const char *name) {
     if (wanted != (size_t)-1) put('A', 1), put(wanted, 4), put_bytes(answers, wanted);
 }
 
-/* ---- the deepest tables (deep.h): checked, matched by a virtual conflict, listed, by single calls and in runs, and asked for partners */
+/* ---- the deepest tables (deep.h): checked, trees met by a new node, matched by a virtual conflict, listed, by single calls and in runs,
+   and asked for partners */
 
 static void meet(uint16_t a, uint16_t b, uint16_t touch_a, uint16_t touch_b) {
     Request r = {CONFLICT, a, b, touch_a, touch_b, 1000u + touch_a, 1000u + touch_b};
@@ -130,6 +131,12 @@ static void deep(enum deep which, const char *table, uint16_t node, uint16_t tou
     uint8_t record[LONGEST_REQUEST];
     deep_table(which, deep_sizes[which], make, meet);
     measured(table, " checked"), put('S', 1);
+    if (which == TREE_TABLE || which == WIDE_TABLE) {
+        Request met = {CONFLICT, node, 255, touch, 255, 1, 2};
+        put('K', 1);
+        measured(table, " met in a run"), put_run(record, write_request(record, &met), ROOM, 1);
+        put('B', 1);
+    }
     put('K', 1);
     measured(table, " matched in a run"), put_run(record, write_request(record, &match), ROOM, 1);
     put('B', 1);

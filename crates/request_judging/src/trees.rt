@@ -5,22 +5,22 @@ ghost use mathlib.Core.Path.{_≡_};
 ghost use Rattle.table.specs.Words.{tableOf};
 ghost use Rattle.rules.specs.Trees.{root, sameTree};
 
-// The node without a parent that the way up from n comes to, or none where 256 steps reach none.
+// The node without a parent that the way up from n comes to, or none if there is no such node within 256 steps.
 fn root_of(t: &Table, n: Node) -> Node
     ensures { λ r. ⌜ r .0 ≡ root (tableOf (now (t .entry))) (n .0) ⌝ }
 {
     let mut here = n;
-    let mut left: usize = 256;
+    let mut steps_left: usize = 256;
     loop {
         let above = table::field::parent(t, here);
         if above.0 == slot::number::NO_NODE {
             return here;
         }
-        if left == 0 {
+        if steps_left == 0 {
             return Node(slot::number::NO_NODE);
         }
         here = above;
-        left -= 1;
+        steps_left -= 1;
     }
 }
 

@@ -1,6 +1,6 @@
 -- Each function, one step at a time: its premises in the code's order, its own promise as the conclusion.
 use mathlib.Core.Path.{_≡_, sym, _∙_}
-use mathlib.Core.Bool.{true, false}
+use mathlib.Core.Bool.{Bool, true, false}
 use mathlib.Core.Logic.{inl, inr}
 use Prim.Native.Nat.{ℕ, _+_}
 use lib.Dec.{T-not}
@@ -39,6 +39,16 @@ two-steps w w₁ w₂ f g p q = q ∙ rw (p, run-then)
 -- nothing
 pub no-step : (w : World) → w ≡ run w skip
 no-step w = sym (run-skip w)
+
+-- the climb, only where a slot is left
+module _ (t : Table) (x y : ℕ) (b : Bool) (e : b ≡ lacksBlossomSlot t) where
+  pub met-no-slot : b ≡ true → none ≡ metWithSlot t x y
+  unfolding metWithSlot
+  met-no-slot q = rw (sym e ∙ q)
+
+  pub met-by-climb : (m : ℕ) → b ≡ false → m ≡ metInTurn t x y → m ≡ metWithSlot t x y
+  unfolding metWithSlot
+  met-by-climb m q h = h ∙ rw (sym e ∙ q)
 
 module _ (w : World) (x y : ℕ) (l : Link) where
   module _ (m : ℕ) where
@@ -121,13 +131,3 @@ checked-once-loaded t room c full s e =
       h .two,
       λ z. test-false _ (tree-slot _ (h .whole) _ _ (h .outer-1) (h .outer-2) (h .two) (h .slot) (true-test _ z)),
     )
-
--- the climb, where a slot is left
-module _ (t : Table) (x y b : ℕ) (e : b ≡ blossomEnd t) where
-  pub met-no-slot : b ≡ 256 → none ≡ metWithSlot t x y
-  unfolding metWithSlot
-  met-no-slot q = rw (le-leb 256 (t .begin + t .blossoms) (no-slot-left t (sym e ∙ q)))
-
-  pub met-by-climb : (m : ℕ) → (b ≡ 256 → ⊥) → m ≡ metInTurn t x y → m ≡ metWithSlot t x y
-  unfolding metWithSlot
-  met-by-climb m n h = h ∙ rw (lt-leb 256 (t .begin + t .blossoms) (slot-left t (λ q. n (e ∙ q)) .1))

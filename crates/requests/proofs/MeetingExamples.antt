@@ -19,10 +19,15 @@ level : (metInTurn grown 7 9 ≡ 1) × (meeting grown 7 9 ≡ 1)
 unfolding all-rules start branches grown marked firstAbove inTurn metInTurn
 level = (refl, refl)
 
--- one is farther, either way round; the nearer end has gone past the meeting node by then, or waits at the root
-uneven : (metInTurn grown 7 3 ≡ 4) × (metInTurn grown 3 7 ≡ 4) × (meeting grown 3 7 ≡ 4)
+-- one is farther, either way round: the nearer end has gone past the meeting node by then
+uneven : (metInTurn grown 8 7 ≡ 1) × (metInTurn grown 7 8 ≡ 1) × (meeting grown 7 8 ≡ 1)
 unfolding all-rules start branches grown marked firstAbove inTurn metInTurn
 uneven = (refl, refl, refl)
+
+-- .. or waits at it, the root
+waiting : (metInTurn grown 7 3 ≡ 4) × (metInTurn grown 3 7 ≡ 4) × (meeting grown 3 7 ≡ 4)
+unfolding all-rules start branches grown marked firstAbove inTurn metInTurn
+waiting = (refl, refl, refl)
 
 -- one stands above the other: it is the meeting node itself, though its end climbs on
 above : (metInTurn grown 1 9 ≡ 1) × (metInTurn grown 9 1 ≡ 1) × (meeting grown 1 9 ≡ 1)

@@ -7,10 +7,11 @@ use mathlib.Core.List.{List, [], _∷_}
 use Prim.Native.Nat.{ℕ, _≤_, _<_}
 use native.Mathlib.Omega.{arith}
 use lib.Dec.{T, T-not, eqb, eqb→eq}
-use lib.ListN.{length, set, replicate, length-set, length-replicate}
+use lib.ListN.{length, set, length-set, length-replicate}
 use Rattle.slot.specs.Number.{none}
 use Rattle.table.specs.Table.{Table, Full, at}
 use Rattle.table.specs.Nodes.{outer}
+use Rattle.table.specs.Marks.{unmarked}
 use Rattle.table.specs.Place.{inTree}
 use Rattle.table.proofs.MarkLaws.{mark-here, mark-kept, mark-only, mark-none}
 use Rattle.rules.specs.Slots.{up}
@@ -61,9 +62,6 @@ module _ (t : Table) (w : Whole t) where
   module _ (x y : ℕ) (ox : T (outer t x)) (oy : T (outer t y)) (two : x ≢ y) where
     apart : Apart (x ∷ []) (y ∷ [])
     apart j m n = two (sym (only-one x j m) ∙ only-one y j n)
-
-    abbrev unmarked : List ℕ
-    unmarked = replicate 256 0
 
     marks : Marks t (set (set unmarked x 1) y 1) (x ∷ []) (y ∷ [])
     marks =

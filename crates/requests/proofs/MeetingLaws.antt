@@ -1,5 +1,4 @@
--- On a sound table the node that two ends come to by climbing in turn is the first that both upward paths share, and they come to none
--- exactly where there are two trees.
+-- Two ways up that end, climbed in turn: what is passed and marked at each step, and what the climb then tells.
 use mathlib.Core.Path.{_≡_, refl, ap, sym, _∙_}
 use mathlib.Core.Logic.{_≢_, _⊎_, inl, inr}
 use mathlib.Core.Bool.{Bool, true, false}
@@ -97,7 +96,7 @@ module _ (t : Table) where
     pub goes-on : isTop t a ≡ false
     goes-on = rw (side .ahead .0) (lt-leb 256 p slot)
 
-    -- nobody comes back
+    -- no end comes back to a node
     new : ¬ (p ∈ ps)
     new m = nodup-append→ ps (p ∷ us) (rw (side .parts) at (chain-nodup (up t) s xs (side .whole))) .2 p m (inl refl)
 

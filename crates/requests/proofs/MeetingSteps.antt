@@ -5,12 +5,12 @@ use mathlib.Core.List.{List}
 use Prim.Native.Nat.{ℕ, zero, suc, _+_, _-_, _≤_, _<_}
 use native.Mathlib.Omega.{arith}
 use lib.Dec.{eqb}
-use lib.ListN.{set, replicate}
+use lib.ListN.{set}
 use borrow.Author.Tests.{le-leb, lt-leb}
 use Rattle.lists.proofs.Budget.{fewer}
 use Rattle.slot.specs.Number.{none}
 use Rattle.table.specs.Table.{Table}
-use Rattle.table.specs.Marks.{marked}
+use Rattle.table.specs.Marks.{unmarked, marked}
 use Rattle.rules.specs.Slots.{up}
 use Rattle.requests.specs.Meeting.{firstAbove, inTurn, metInTurn}
 
@@ -38,9 +38,9 @@ module _ (t : Table) (test : ℕ → Bool) (n p : ℕ) (e : p ≡ up t n) where
 
 -- ---- both in turn
 
--- a turn is a step of each end
-two-steps : (k : ℕ) → (k ≡ 0 → ⊥) → k + k ≡ suc (suc ((k - 1) + (k - 1)))
-two-steps k h = omega (arith, h)
+-- a round is a turn of each end
+two-turns : (k : ℕ) → (k ≡ 0 → ⊥) → k + k ≡ suc (suc ((k - 1) + (k - 1)))
+two-turns k h = omega (arith, h)
 
 module _ (t : Table) (ms : List ℕ) (a b p : ℕ) (e : p ≡ up t a) where
   step-top : (k r : ℕ) → 256 ≤ p → r ≡ firstAbove 256 t (marked ms) b → r ≡ inTurn (suc k) t ms a b
@@ -55,21 +55,21 @@ module _ (t : Table) (ms : List ℕ) (a b p : ℕ) (e : p ≡ up t a) where
   unfolding inTurn
   step-more k l m = rw (← e, lt-leb 256 p l, m)
 
-pub turn-spent : (t : Table) (ms : List ℕ) (a b k : ℕ) → k ≡ 0 → none ≡ inTurn (k + k) t ms a b
+pub round-spent : (t : Table) (ms : List ℕ) (a b k : ℕ) → k ≡ 0 → none ≡ inTurn (k + k) t ms a b
 unfolding inTurn
-turn-spent t ms a b k z = rw z
+round-spent t ms a b k z = rw z
 
 module _ (t : Table) (ms : List ℕ) (a b k : ℕ) (h : k ≡ 0 → ⊥) (p : ℕ) (e : p ≡ up t a) where
   pub first-top : (r : ℕ) → 256 ≤ p → r ≡ firstAbove 256 t (marked ms) b → r ≡ inTurn (k + k) t ms a b
-  first-top r l q = rw (two-steps k h) (step-top t ms a b p e _ r l q)
+  first-top r l q = rw (two-turns k h) (step-top t ms a b p e _ r l q)
 
   module _ (l : p < 256) (m : Bool) (f : m ≡ marked ms p) where
     pub first-met : m ≡ true → p ≡ inTurn (k + k) t ms a b
-    first-met u = rw (two-steps k h) (step-met t ms a b p e _ l (sym f ∙ u))
+    first-met u = rw (two-turns k h) (step-met t ms a b p e _ l (sym f ∙ u))
 
     module _ (u : m ≡ false) (ns : List ℕ) (g : ns ≡ set ms p 1) (q : ℕ) (i : q ≡ up t b) where
       second : inTurn (suc ((k - 1) + (k - 1))) t ns b p ≡ inTurn (k + k) t ms a b
-      second = rw (two-steps k h, g) (step-more t ms a b p e _ l (sym f ∙ u))
+      second = rw (two-turns k h, g) (step-more t ms a b p e _ l (sym f ∙ u))
 
       pub second-top : (r : ℕ) → 256 ≤ q → r ≡ firstAbove 256 t (marked ns) p → r ≡ inTurn (k + k) t ms a b
       second-top r v w = step-top t ns b p q i _ r v w ∙ second
@@ -78,8 +78,8 @@ module _ (t : Table) (ms : List ℕ) (a b k : ℕ) (h : k ≡ 0 → ⊥) (p : �
         pub second-met : o ≡ true → q ≡ inTurn (k + k) t ms a b
         second-met w = step-met t ns b p q i _ v (sym j ∙ w) ∙ second
 
-        pub turn-more : (os : List ℕ) → o ≡ false → os ≡ set ns q 1 → inTurn ((k - 1) + (k - 1)) t os p q ≡ inTurn (k + k) t ms a b
-        turn-more os w x = rw x (step-more t ns b p q i _ v (sym j ∙ w)) ∙ second
+        pub round-more : (os : List ℕ) → o ≡ false → os ≡ set ns q 1 → inTurn ((k - 1) + (k - 1)) t os p q ≡ inTurn (k + k) t ms a b
+        round-more os w x = rw x (step-more t ns b p q i _ v (sym j ∙ w)) ∙ second
 
 -- ---- the whole
 
@@ -96,7 +96,7 @@ module _ (t : Table) (a b p : ℕ) (e : p ≡ up t a) where
     pub met-climbed :
         (r : ℕ) (ms ns : List ℕ)
         → q < 256
-        → ms ≡ set (replicate 256 0) a 1
+        → ms ≡ set unmarked a 1
         → ns ≡ set ms b 1
         → r ≡ inTurn 512 t ns a b
         → r ≡ metInTurn t a b

@@ -3,11 +3,11 @@ use Prim.Native.Nat.{ℕ, zero, suc}
 use mathlib.Core.Bool.{Bool}
 use mathlib.Core.List.{List}
 use lib.Dec.{eqb, leb}
-use lib.ListN.{set, replicate}
+use lib.ListN.{set}
 use Rattle.lists.specs.Choice.{pick}
 use Rattle.slot.specs.Number.{none}
 use Rattle.table.specs.Table.{Table}
-use Rattle.table.specs.Marks.{marked}
+use Rattle.table.specs.Marks.{unmarked, marked}
 use Rattle.rules.specs.Slots.{up}
 use Rattle.rules.specs.Trees.{sameTree, meeting}
 
@@ -34,9 +34,9 @@ inTurn (suc k) t ms a b =
 -- 256 turns each, both starting on a marked node; where one starts at its top, the other has only that node to come to
 unfoldable pub metInTurn : Table → ℕ → ℕ → ℕ
 metInTurn t a b =
-    let climbed = inTurn 512 t (set (set (replicate 256 0) a 1) b 1) a b in
+    let climbed = inTurn 512 t (set (set unmarked a 1) b 1) a b in
     pick (isTop t a) (firstAbove 256 t (eqb a) b) (pick (isTop t b) (firstAbove 256 t (eqb b) a) climbed)
 
--- what that is for two outer nodes of a sound table: 01's meeting node, or none where there are two trees
+-- what that is for two different outer nodes of a sound table: 01's meeting node, or none where there are two trees
 abbrev pub meetingOrNone : Table → ℕ → ℕ → ℕ
 meetingOrNone t a b = pick (sameTree t a b) (meeting t a b) none

@@ -15,7 +15,8 @@ use Rattle.rules.specs.Trees.{loaded, sameTree}
 use Rattle.rules.specs.Blossom.{lacksBlossomSlot, createBlossom}
 use Rattle.requests.specs.Meeting.{metInTurn}
 
--- two nodes of a sound table that the checks have passed: both outer (4), not one (5), and in one tree with a slot left for a blossom (8)
+-- two nodes of a sound table that the checks have passed: both outer (4), not one (5), and, if they are in one tree, with a slot left for
+-- a blossom (8)
 abbrev pub Checked : Table → ℕ → ℕ → Type 0
 Checked t x y = (sound t ≡ true) × (outer t x ≡ true) × (outer t y ≡ true) × (x ≢ y) × (sameTree t x y ≡ true → lacksBlossomSlot t ≡ false)
 
@@ -23,7 +24,7 @@ Checked t x y = (sound t ≡ true) × (outer t x ≡ true) × (outer t y ≡ tru
 abbrev pub CheckedOnceLoaded : Conflict → Table → Type 0
 CheckedOnceLoaded c t = Checked (loaded (c .«node_2» .0) (loaded (c .«node_1» .0) t)) (c .«node_1» .0) (c .«node_2» .0)
 
--- where no slot is left there are two trees, and nobody climbs
+-- where no slot is left there are two trees, and nothing is climbed
 unfoldable pub metWithSlot : Table → ℕ → ℕ → ℕ
 metWithSlot t x y = pick (lacksBlossomSlot t) none (metInTurn t x y)
 

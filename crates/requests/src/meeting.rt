@@ -1,6 +1,6 @@
 // Where the ways up from two nodes meet. Both ends climb in turn and mark what they pass; the first step onto a marked node is onto the
-// meeting node. Where both come to a root without one, there are two trees. A number past the last slot is taken for the end of a way
-// up, as none is: on a sound table there is no other. Each climb is bounded, so it ends on any table.
+// meeting node. Where both come to their roots first, there are two trees. A number past the last slot is taken for the end of a way up:
+// on a sound table none is the only such number. Each climb is bounded, so it ends on any table.
 use slot::Node;
 use slot::number::NO_NODE;
 use table::Table;
@@ -12,7 +12,7 @@ ghost use Rattle.table.specs.Words.{tableOf};
 ghost use Rattle.table.specs.Marks.{marked};
 ghost use Rattle.requests.specs.Meeting.{firstAbove, inTurn, metInTurn};
 
-// The way up from n to a root, or none where it ends elsewhere.
+// This root, if the way up from n comes to it; else none.
 fn climb_to_root(t: &Table, root: Node, n: Node) -> Node
     ensures { λ r. ⌜ r .0 ≡ firstAbove 256 (tableOf (now (t .entry))) (eqb (root .0)) (n .0) ⌝ }
 {
@@ -35,7 +35,7 @@ fn climb_to_root(t: &Table, root: Node, n: Node) -> Node
     found
 }
 
-// The way up from n to the first node that is marked, or none where it ends before.
+// The first marked node above n; none if the way up ends before.
 fn climb_to_mark(t: &Table, passed: &[u8], n: Node) -> Node
     ensures { λ r. ⌜ r .0 ≡ firstAbove 256 (tableOf (now (t .entry))) (marked (now (passed .entry))) (n .0) ⌝ }
 {
@@ -64,9 +64,9 @@ fn climb_in_turn(t: &Table, passed: &mut [u8], a: Node, b: Node) -> Node
 {
     let mut on_a = a;
     let mut on_b = b;
-    let mut turns_left: usize = 256;
+    let mut rounds_left: usize = 256;
     let meeting = loop {
-        if turns_left == 0 {
+        if rounds_left == 0 {
             break Node(NO_NODE);
         }
         let above_a = field::parent(t, on_a);
@@ -87,13 +87,13 @@ fn climb_in_turn(t: &Table, passed: &mut [u8], a: Node, b: Node) -> Node
         marks::mark(passed, above_b);
         on_a = above_a;
         on_b = above_b;
-        turns_left -= 1;
+        rounds_left -= 1;
     };
     meeting
 }
 
-// 01: "The meeting node is the first node that both upward paths share." None where there are two trees. Where one of the two is a root,
-// it is the only node that it passes, and nothing is marked.
+// 01: "The meeting node is the first node that both upward paths share." None where there are two trees. So it is for two different
+// outer nodes of a sound table (`MeetingFound`). A root passes no node but itself, so where one of the two is a root nothing is marked.
 pub fn find_lowest_common_ancestor(t: &Table, a: Node, b: Node) -> Node
     ensures { λ r. ⌜ r .0 ≡ metInTurn (tableOf (now (t .entry))) (a .0) (b .0) ⌝ }
 {

@@ -14,7 +14,8 @@ ghost use Rattle.rules.specs.Act.{worldOf, run};
 ghost use Rattle.rules.specs.Conflict.{treesMeet, rowOf, resolved, conflict};
 ghost use Rattle.requests.specs.Resolving.{Checked, CheckedOnceLoaded, metWithSlot, blossomAt};
 
-// A blossom of two nodes of one tree, which meet at this node, in the next free slot.
+// A blossom of two nodes of one tree, which meet at this node, in the next free slot. There is one, where the two were told to meet; the
+// test keeps the count in its range on any table.
 fn blossom_at(
     t: &mut Table,
     out: &mut [u8],
@@ -34,11 +35,11 @@ fn blossom_at(
     request_blossom::create_blossom(t, out, pos, Node(next), given, meeting, x, y, link)
 }
 
-// Where two tree nodes meet, or none. Nobody climbs where no slot is left: 8 was asked, so there are two trees.
+// Where two tree nodes meet, or none. Nothing is climbed where no slot is left: 8 was asked, so there are two trees.
 fn meeting_of(t: &Table, x: Node, y: Node) -> Node
     ensures { λ r. ⌜ r .0 ≡ metWithSlot (tableOf (now (t .entry))) (x .0) (y .0) ⌝ }
 {
-    if table::counts::blossom_end(t) == 256 {
+    if request_judging::checks::lacks_blossom_slot(t) {
         return Node(slot::number::NO_NODE);
     }
     crate::meeting::find_lowest_common_ancestor(t, x, y)

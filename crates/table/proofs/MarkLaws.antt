@@ -7,16 +7,16 @@ use Prim.Native.Nat.{ℕ, _≤_, _<_}
 use native.Mathlib.Decide.{ℕ-discrete, decLt}
 use native.Mathlib.Omega.{arith}
 use lib.Dec.{T, eqb}
-use lib.ListN.{length, getD, set, replicate, length-replicate, getD-replicate, List·getD-eq-default}
+use lib.ListN.{length, getD, set, length-replicate, getD-replicate, List·getD-eq-default}
 use lib.Seq.{getD-set-same, getD-set-other}
 use borrow.Author.Tests.{eq-eqb, ne-eqb}
-use Rattle.table.specs.Marks.{marked}
+use Rattle.table.specs.Marks.{marked, unmarked}
 
 pub marked-past : (l : List ℕ) (n : ℕ) → length l ≤ n → false ≡ marked l n
 unfolding marked
 marked-past l n h = rw (List·getD-eq-default l 0 h)
 
-pub marked-none : (j : ℕ) → j < 256 → marked (replicate 256 0) j ≡ false
+pub marked-none : (j : ℕ) → j < 256 → marked unmarked j ≡ false
 unfolding marked
 marked-none j h = rw (getD-replicate {A = ℕ} 256 j 0 0 h)
 
@@ -61,7 +61,7 @@ mark-only l n j m = go (ℕ-discrete j n)
     go (no d) = inr (rw (mark-other l n j d) at m)
 
 -- .. and nothing is marked at first
-pub mark-none : (j : ℕ) → ¬ T (marked (replicate 256 0) j)
+pub mark-none : (j : ℕ) → ¬ T (marked unmarked j)
 mark-none j m =
-    let l : j < 256 = omega (arith, mark-within (replicate 256 0) j m, length-replicate {A = ℕ} 256 0) in
+    let l : j < 256 = omega (arith, mark-within unmarked j m, length-replicate {A = ℕ} 256 0) in
     rw (marked-none j l) at m

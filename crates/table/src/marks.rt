@@ -1,4 +1,5 @@
-// A mark for each slot, in memory lent beside the table. Past its end there is nothing to read and nothing to change.
+// Which slots a walk has passed, a byte for each, in memory lent beside the table. Past its end there is nothing to read and nothing to
+// change. (The mark in the table's own words is a slot's state.)
 use slot::Node;
 ghost use mathlib.Core.Path.{_≡_};
 ghost use lib.ListN.{set};

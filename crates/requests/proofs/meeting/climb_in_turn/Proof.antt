@@ -4,7 +4,7 @@ use Prim.Native.Nat.{_+_}
 use lib.ListN.{length}
 use Rattle.table.specs.Words.{tableOf}
 use Rattle.requests.specs.Meeting.{inTurn}
-use Rattle.requests.proofs.MeetingSteps.{turn-spent, first-top, first-met, second-top, second-met, turn-more}
+use Rattle.requests.proofs.MeetingSteps.{round-spent, first-top, first-met, second-top, second-met, round-more}
 use Rattle.requests.proofs.meeting.climb_in_turn.Statement.{statement}
 use Rattle.requests.proofs.meeting.climb_in_turn.Tie as tie
 
@@ -31,9 +31,9 @@ climb-in-turn-spec =
     (λ c κs. search needs)
     (λ c. search needs)
     (λ c. search needs)
-    (λ c. (turn-more _ _ _ _ _ (c .before .before .before .before .before .before .before .before .before .before .before .before .before .before .before .before .before .before .before .before .if1 .left) _ (c .before .before .before .before .before .before .before .before .before .before .before .before .before .before .before .before .before .before .before .parent .ensures) (c .before .before .before .before .before .before .before .before .before .before .before .before .before .before .before .before .before .if2 .left) _ (c .before .before .before .before .before .before .before .before .before .before .before .before .before .before .before .is-marked .ensures) (c .before .before .before .before .before .before .before .before .before .before .before .before .before .before .if3 .left) _ (c .before .before .before .before .before .before .before .before .before .before .before .before .mark .ensures) _ (c .before .before .before .before .before .before .before .before .before .parent2 .ensures) (c .before .before .before .before .before .before .before .if4 .left) _ (c .before .before .before .before .before .is-marked2 .ensures) _ (c .before .before .before .before .if5 .left) (c .before .before .mark2 .ensures) ∙ (c .before .before .before .before .before .before .before .before .before .before .before .before .before .before .before .before .before .before .before .before .before .loop .inv .0), search needs))
+    (λ c. (round-more _ _ _ _ _ (c .before .before .before .before .before .before .before .before .before .before .before .before .before .before .before .before .before .before .before .before .if1 .left) _ (c .before .before .before .before .before .before .before .before .before .before .before .before .before .before .before .before .before .before .before .parent .ensures) (c .before .before .before .before .before .before .before .before .before .before .before .before .before .before .before .before .before .if2 .left) _ (c .before .before .before .before .before .before .before .before .before .before .before .before .before .before .before .is-marked .ensures) (c .before .before .before .before .before .before .before .before .before .before .before .before .before .before .if3 .left) _ (c .before .before .before .before .before .before .before .before .before .before .before .before .mark .ensures) _ (c .before .before .before .before .before .before .before .before .before .parent2 .ensures) (c .before .before .before .before .before .before .before .if4 .left) _ (c .before .before .before .before .before .is-marked2 .ensures) _ (c .before .before .before .before .if5 .left) (c .before .before .mark2 .ensures) ∙ (c .before .before .before .before .before .before .before .before .before .before .before .before .before .before .before .before .before .before .before .before .before .loop .inv .0), search needs))
     (λ c. search needs)
-    (λ c. turn-spent _ _ _ _ _ (c .if1 .taken) ∙ (c .before .loop .inv .0))
+    (λ c. round-spent _ _ _ _ _ (c .if1 .taken) ∙ (c .before .loop .inv .0))
     (λ c. search needs)
     (λ c. first-top _ _ _ _ _ (c .before .before .before .before .before .if1 .left) _ (c .before .before .before .before .parent .ensures) _ (c .before .before .if2 .taken) (c .climb-to-mark .ensures) ∙ (c .before .before .before .before .before .before .loop .inv .0))
     (λ c. search needs)

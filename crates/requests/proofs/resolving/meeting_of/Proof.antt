@@ -8,6 +8,6 @@ meeting-of-spec =
     tie.close
     (tie.spec
     (λ c κs. search needs)
-    (λ c. met-no-slot _ _ _ _ (c .before .blossom-end .ensures) (c .if1 .taken))
+    (λ c. met-no-slot _ _ _ _ (c .before .lacks-blossom-slot .ensures) (c .if1 .taken))
     (λ c κs. search needs)
-    (λ c. met-by-climb _ _ _ _ (c .before .before .blossom-end .ensures) _ (c .before .if1 .left) (c .find-lowest-common-ancestor .ensures)))
+    (λ c. met-by-climb _ _ _ _ (c .before .before .lacks-blossom-slot .ensures) _ (c .before .if1 .left) (c .find-lowest-common-ancestor .ensures)))
