@@ -30,7 +30,7 @@ use Rattle.theorems_soundness.proofs.Wholes.{to-whole, from-whole}
 use Rattle.theorems_soundness.proofs.Accepting.{both-loaded}
 use Rattle.requests.specs.Meeting.{metInTurn, meetingOrNone}
 use Rattle.requests.specs.Resolving.{Checked, CheckedOnceLoaded, metWithSlot, blossomAt}
-use Rattle.requests.proofs.MeetingFound.{tree-slot, met-with-slot, meeting-some}
+use Rattle.requests.proofs.MeetingFound.{tree-slot, met-with-slot, met-some}
 
 -- two acts, one after the other
 pub two-steps : (w w₁ w₂ : World) (f g : Act) → w₁ ≡ run w f → w₂ ≡ run w₁ g → w₂ ≡ run w (f then g)
@@ -95,7 +95,7 @@ module _ (w : World) (x y : ℕ) (l : Link) where
           → w₃ ≡ run w (treesMeet x y l)
       unfolding treesMeet
       two-trees w₁ w₂ w₃ d p q r =
-          let s : sameTree (w .table) x y ≡ false = test-false _ (λ i. meeting-some (w .table) x y full ok i (sym (pick-yes (sameTree (w .table) x y) (meeting (w .table) x y) none i) ∙ sym told ∙ d)) in
+          let s : sameTree (w .table) x y ≡ false = test-false _ (λ i. met-some (w .table) x y full ok i (sym (pick-yes (sameTree (w .table) x y) (meeting (w .table) x y) none i) ∙ sym told ∙ d)) in
           r ∙ rw (q, p) (sym (run-read w _ ∙ run-no w (sameTree (w .table) x y) (blossomInTree x y l) _ s ∙ rw (run-then, run-then)))
 
   pub resolved-by :

@@ -120,7 +120,7 @@ module _ (t : Table) (w : Whole t) where
         let ends : root t x ≢ root t y = λ e. h .1 (sym (ways.root-is-end t (w .full) (w .core) x ox) ∙ e ∙ ways.root-is-end t (w .full) (w .core) y oy) in
         h .0 ∙ sym (pick-no {A = ℕ} (sameTree t x y) (meeting t x y) none (λ s. ends (ways.sameTree↔ t (w .full) (w .core) x y ox .0 s)))
 
-    met : metInTurn t x y ≡ meetingOrNone t x y
+    pub met : metInTurn t x y ≡ meetingOrNone t x y
     met = let p = stands x ox in let q = stands y oy in is-told (metInTurn t x y) (told (p .0) (q .0) (p .1) (q .1) (p .2) (q .2))
 
   -- ---- two nodes of one tree
@@ -152,6 +152,15 @@ module _ (t : Table) (w : Whole t) where
       let e = ways.sameTree↔ t (w .full) (w .core) x y ox .0 s in
       h (in-a-tree x y ox oy two e) (in-a-tree y x oy ox (λ z. two (sym z)) (sym e)) s
 
+  -- the meeting node is a slot
+  pub meeting-some : (x y : ℕ) → T (outer t x) → T (outer t y) → T (sameTree t x y) → meeting t x y ≢ none
+  meeting-some x y ox oy s =
+      let e = ways.sameTree↔ t (w .full) (w .core) x y ox .0 s in
+      let f = ways.meeting-found t (w .full) (w .core) x y ox oy e in
+      outer-some t (w .full) (w .core) (meeting t x y) (ways.upward-all-outer t (w .full) (w .core) y oy (meeting t x y) (f .on-other))
+
+-- ---- of a conflict that the checks have passed
+
 module _ (t : Table) (x y : ℕ) (full : Full t) (ok : Checked t x y) where
   w : Whole t
   w = to-whole t full (true-test (sound t) (ok .0))
@@ -162,21 +171,14 @@ module _ (t : Table) (x y : ℕ) (full : Full t) (ok : Checked t x y) where
   oy : T (outer t y)
   oy = true-test (outer t y) (ok .2)
 
-  pub met-in-turn : metInTurn t x y ≡ meetingOrNone t x y
-  met-in-turn = met t w x y ox oy (ok .3)
-
   pub met-with-slot : metWithSlot t x y ≡ meetingOrNone t x y
   unfolding metWithSlot
   met-with-slot = elim (test-case (lacksBlossomSlot t)) [
     | inl l ↦
         let apart : ¬ T (sameTree t x y) = λ s. T-not (lacksBlossomSlot t) (rw (ok .4 (test-true (sameTree t x y) s)) tt) l in
         pick-yes (lacksBlossomSlot t) none (metInTurn t x y) l ∙ sym (pick-no {A = ℕ} (sameTree t x y) (meeting t x y) none apart)
-    | inr n ↦ pick-no {A = ℕ} (lacksBlossomSlot t) none (metInTurn t x y) (T-not (lacksBlossomSlot t) n) ∙ met-in-turn
+    | inr n ↦ pick-no {A = ℕ} (lacksBlossomSlot t) none (metInTurn t x y) (T-not (lacksBlossomSlot t) n) ∙ met t w x y ox oy (ok .3)
   ]
 
-  -- the meeting node is a slot
-  pub meeting-some : T (sameTree t x y) → meeting t x y ≢ none
-  meeting-some s =
-      let e = ways.sameTree↔ t (w .full) (w .core) x y ox .0 s in
-      let f = ways.meeting-found t (w .full) (w .core) x y ox oy e in
-      outer-some t (w .full) (w .core) (meeting t x y) (ways.upward-all-outer t (w .full) (w .core) y oy (meeting t x y) (f .on-other))
+  pub met-some : T (sameTree t x y) → meeting t x y ≢ none
+  met-some = meeting-some t w x y ox oy

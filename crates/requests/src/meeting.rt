@@ -93,7 +93,7 @@ fn climb_in_turn(t: &Table, passed: &mut [u8], a: Node, b: Node) -> Node
 }
 
 // 01: "The meeting node is the first node that both upward paths share." None where there are two trees. So it is for two different
-// outer nodes of a sound table (`MeetingFound`). A root passes no node but itself, so where one of the two is a root nothing is marked.
+// outer nodes of a sound table (`MeetingNode`). A root passes no node but itself, so where one of the two is a root nothing is marked.
 pub fn find_lowest_common_ancestor(t: &Table, a: Node, b: Node) -> Node
     ensures { λ r. ⌜ r .0 ≡ metInTurn (tableOf (now (t .entry))) (a .0) (b .0) ⌝ }
 {
