@@ -1,4 +1,4 @@
--- Statements: what two ends that climb in turn and mark what they pass come to, on a sound table, from two different outer nodes.
+-- Statements: where the climb in turn from two different outer nodes of a sound table comes to.
 use mathlib.Core.Path.{_≡_, sym, _∙_}
 use mathlib.Core.Logic.{_≢_, _↔_}
 use Prim.Native.Nat.{ℕ}

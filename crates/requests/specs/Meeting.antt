@@ -1,4 +1,4 @@
--- Where the ways up from two nodes meet, as the code finds it: both ends climb in turn and mark what they pass.
+-- Where the ways up from two nodes meet, as the code finds it: a climb of two ends in turn, which leave marks.
 use Prim.Native.Nat.{ℕ, zero, suc}
 use mathlib.Core.Bool.{Bool}
 use mathlib.Core.List.{List}

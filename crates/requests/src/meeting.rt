@@ -1,6 +1,6 @@
-// Where the ways up from two nodes meet. Both ends climb in turn and mark what they pass; the first step onto a marked node is onto the
-// meeting node. Where both come to their roots first, there are two trees. A number past the last slot is taken for the end of a way up:
-// on a sound table none is the only such number. Each climb is bounded, so it ends on any table.
+// Where the ways up from two nodes meet. Two ends take a step each by turns and leave a mark at every node; the one that finds a mark
+// there already is at the meeting node. Where both come to their roots first, there are two trees. A number past the last slot is taken
+// for the end of a way up: on a sound table none is the only such number. Each climb is bounded, so it ends on any table.
 use slot::Node;
 use slot::number::NO_NODE;
 use table::Table;
