@@ -2,6 +2,7 @@
  *
  *   driver run TIMES <TAPE              the tape on a fresh table of begin 128, and the requests and answer bytes of one time
  *   driver sound TABLE TIMES            the soundness check of a table
+ *   driver fault TABLE TIMES            the question why it is damaged, of the table with one touch damaged, so that S8 alone fails
  *   driver list TABLE TIMES             its listing
  *   driver partner TABLE DEFECT TIMES   the question for a defect's partner, with the soundness check; `all` asks for each defect once
  *   driver reset TIMES                  emptying a table
@@ -231,6 +232,29 @@ static void ask(uint16_t defect)
 
 static void ask_deepest(void) { ask(0); }
 
+/* The highest slot that has a touch gets another one, which is outside it; and so does the peer touch of its peer, so that no other rule
+   fails. The search then asks every rule at every slot, and S8 up to there. */
+enum { SLOT_WORDS = 11, SIBLING = 3, TOUCH = 5, PEER_TOUCH = 6 };
+
+static void damage_touch(void)
+{
+	uint16_t slot;
+	int n = 255;
+	while (n >= 0 && table[SLOT_WORDS * n + TOUCH] == BOLTCLOVER_NO_NODE)
+		n--;
+	must(n >= 0, "no node of the table has a touch to be damaged");
+	uint16_t *words = table + SLOT_WORDS * n;
+	int half = words[0] == 2 && words[SIBLING] != BOLTCLOVER_NO_NODE;
+	for (uint16_t defect = 0; defect < defects; defect++) {
+		words[TOUCH] = defect;
+		if (half)
+			table[SLOT_WORDS * words[SIBLING] + PEER_TOUCH] = defect;
+		if (boltclover_fault(table, &slot) == 8)
+			return;
+	}
+	must(0, "no touch makes S8 fail");
+}
+
 static void nothing(void) {}
 
 static size_t touched(void (*call)(void))
@@ -276,7 +300,7 @@ static void measure(const char *name)
 
 int main(int argc, char **argv)
 {
-	must(argc >= 3, "run TIMES | sound TABLE TIMES | list TABLE TIMES | partner TABLE DEFECT TIMES | reset TIMES | conflict TABLE WHAT TIMES | baseline TABLE WHAT TIMES | stack TABLE");
+	must(argc >= 3, "run TIMES | sound TABLE TIMES | fault TABLE TIMES | list TABLE TIMES | partner TABLE DEFECT TIMES | reset TIMES | conflict TABLE WHAT TIMES | baseline TABLE WHAT TIMES | stack TABLE");
 	/* what is counted is the calls alone: the words are read before */
 	int times = atoi(argv[argc - 1]);
 	if (strcmp(argv[1], "run") == 0) {
@@ -296,6 +320,14 @@ int main(int argc, char **argv)
 			for (int defect = first; defect <= last; defect++)
 				ask(defect);
 		printf("paired %lu\n", paired);
+	} else if (strcmp(argv[1], "fault") == 0) {
+		uint16_t slot = 0;
+		must(argc == 4, "a table and a number");
+		build(argv[2]);
+		damage_touch();
+		for (int i = 0; i < times; i++)
+			must(boltclover_fault(table, &slot) == 8, "another rule fails");
+		printf("S8 at slot %u\n", slot);
 	} else if (strcmp(argv[1], "conflict") == 0 || strcmp(argv[1], "baseline") == 0) {
 		must(argc == 5, "a table, a kind of conflict and a number");
 		int path = is(argv[2], "tree");

@@ -11,16 +11,18 @@
  *
  * What is lent. Every pointer is lent for the call alone. None may be NULL, also where its length is 0. A table is
  * BOLTCLOVER_TABLE_WORDS words, in any memory of the caller's (static, stack, heap). Each pointer is aligned as the type that it
- * points to: table, side, stop, kind and partner by 2 bytes, handled, through and peer_through by 4, written and unread by 8; tape and out
+ * points to: table, slot, side, stop, kind and partner by 2 bytes, handled, through and peer_through by 4, written and unread by 8; tape and out
  * need no alignment. The objects of one call must not overlap. Calls on different tables may run at the same time; calls on one table may not.
  *
  * What a call changes. An accepted call changes the table, *written, *side and the first *written bytes of out; later bytes of out
  * stay as they were. A refused call changes nothing but *written, which it sets to 0, and *side: the table and every byte of out stay
  * as they were. *side is set at every return. The question for a partner changes *kind, *partner, *through and *peer_through alone, and
- * sets all four at every return. The old contents of these four and of *written, *side, *stop, *handled and *unread are never read.
+ * sets all four at every return. The question why a table is damaged changes *slot alone, and sets it at every return. The old contents of
+ * these five and of *written, *side, *stop, *handled and *unread are never read.
  *
  * What is asked of the caller. Of the values nothing: every table, number, tape and length may be passed, and every call ends.
- * A table that was not made, or that something else wrote into, is found out by each call and refused (number 1).
+ * A table that was not made, or that something else wrote into, is found out by each call and refused (number 1); boltclover_fault
+ * then names the rule that it breaks, and the slot.
  *
  * Bytes are records, little-endian: a two-byte length (of what follows it), a two-byte kind, fields. A node has two bytes, a
  * vertex four. A run also reads a request that recorders padded: with zeros behind it up to a multiple of four bytes, the length field
@@ -62,7 +64,7 @@ typedef uint64_t boltclover_size; /* a length, room or count of bytes, on every 
 /* The numbers given back. Each call gives the first that applies, in the order that stands beside the call. */
 enum {
     BOLTCLOVER_DONE = 0,
-    BOLTCLOVER_NOT_SOUND = 1,         /* the table is not sound */
+    BOLTCLOVER_NOT_SOUND = 1,         /* the table is not sound: boltclover_fault says why */
     BOLTCLOVER_NO_RECORD_ROOM = 2,    /* given by the Rattle call that writes one record; by no call here */
     BOLTCLOVER_NO_SUCH_NODE = 3,      /* a named node is 256 or more, or an empty blossom slot; a vertex is none; or no present defect is asked about */
     BOLTCLOVER_NOT_OUTER = 4,         /* a named node is inside a blossom */
@@ -110,6 +112,13 @@ uint16_t boltclover_reset(uint16_t *table);
 /* 1 if the table is sound, 0 if not. */
 uint16_t boltclover_sound(const uint16_t *table);
 
+/* Why a table is damaged. 0 and *slot 0 exactly if it is sound; otherwise the first of the rules S1 to S8 (docs/RULES-IN-WORDS.md) that
+   fails, 1 to 8, and the lowest slot at which it fails. The sizes, of S1, are told at slot 0; a child list (S5) at the node whose list it
+   is, a ring (S6) at its blossom, every other rule at the slot that stores the field. No refusals. On a table that is not sound it takes up
+   to some hundred times as long as boltclover_sound (docs/SPEED.md). A table kept in a file (its words, two bytes each, the low one first)
+   is explained in words by `./boltclover fault FILE`. */
+uint16_t boltclover_fault(const uint16_t *table, uint16_t *slot);
+
 /* Two nodes touch: node_1 by its defect touch_1 at vertex_1, node_2 by touch_2 at vertex_2. A defect that the table has not
    seen is loaded first. Commands for the dual half go to out. 0, or in this order 1, 9, 3, 4, 5, 6, 7, 8; *side says which node
    3, 4 and 6 are for. */
@@ -137,7 +146,7 @@ uint16_t boltclover_partner(const uint16_t *table, uint16_t defect, uint16_t *ki
 /* Handles the requests of a tape, at most allowance of them. Each writes its records and an end record with 0 or its refusal and side;
    a refused request does not stop the run. Gives *stop, the requests handled, the bytes written, and the bytes left unread:
    the last *unread bytes of the tape. 0; or 1 on a table that is not sound, with *stop, *handled and *written 0 and *unread
-   the whole length. */
+   the whole length: boltclover_fault says what is wrong with it. */
 uint16_t boltclover_run(uint16_t *table, const uint8_t *tape, boltclover_size length, uint8_t *out, boltclover_size room, uint32_t allowance,
                         uint16_t *stop, uint32_t *handled, boltclover_size *written, boltclover_size *unread);
 

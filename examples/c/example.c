@@ -1,4 +1,5 @@
-/* A caller of the library: makes a table, brings two events into conflict, lists the pair, asks for a partner, is refused, and runs a tape. */
+/* A caller of the library: makes a table, brings two events into conflict, lists the pair, asks for a partner, is refused, runs a tape, and asks what is
+   wrong with a damaged table. */
 #include <stdio.h>
 #include <string.h>
 
@@ -90,5 +91,7 @@ int main(void) {
     table[0] = 77;
     printf("sound with a word overwritten: %u; a conflict is then refused by %u\n", boltclover_sound(table),
            boltclover_conflict(table, 4, 5, 4, 5, 14, 15, out, sizeof out, &written, &side));
+    uint16_t slot, rule = boltclover_fault(table, &slot);
+    printf("for what is wrong: rule S%u fails at slot %u\n", rule, slot);
     return 0;
 }

@@ -27,6 +27,7 @@ impl Vertex {
 /// The numbers given back.
 #[derive(Clone, Copy, PartialEq, Eq, Debug)]
 pub enum Refusal {
+    /// `Table::fault` says why.
     NotSound = 1,
     NoRecordRoom = 2,
     NoSuchNode = 3,
@@ -60,6 +61,13 @@ impl From<Refused> for Refusal {
     fn from(refused: Refused) -> Refusal {
         refused.refusal
     }
+}
+
+/// Why a table is damaged: the first of the rules S1 to S8 that fails, 1 to 8, and the lowest slot at which it fails.
+#[derive(Clone, Copy, PartialEq, Eq, Debug)]
+pub struct Fault {
+    pub rule: u16,
+    pub slot: Node,
 }
 
 /// Why a run stopped.
@@ -113,7 +121,7 @@ pub const WORDS: usize = 2819;
 pub const COMMAND_ROOM: usize = 4096;
 pub const RUN_ROOM: usize = 4104;
 
-/// A table. It can only be had by making one, and only the calls change it.
+/// A table, made or taken from words that were kept. Only the calls change it.
 #[derive(Clone)]
 pub struct Table {
     words: [u16; WORDS],
@@ -123,6 +131,7 @@ extern "C" {
     fn boltclover_make(table: *mut u16, begin: u16) -> u16;
     fn boltclover_reset(table: *mut u16) -> u16;
     fn boltclover_sound(table: *const u16) -> u16;
+    fn boltclover_fault(table: *const u16, slot: *mut u16) -> u16;
     fn boltclover_conflict(
         table: *mut u16,
         node_1: u16,
@@ -221,6 +230,27 @@ impl Table {
 
     pub fn is_sound(&self) -> bool {
         unsafe { boltclover_sound(self.words.as_ptr()) == 1 }
+    }
+
+    /// Why the table is damaged; `None` exactly if it is sound.
+    pub fn fault(&self) -> Option<Fault> {
+        let mut slot = 0;
+        let rule = unsafe { boltclover_fault(self.words.as_ptr(), &mut slot) };
+        if rule == 0 {
+            None
+        } else {
+            Some(Fault { rule, slot: Node(slot) })
+        }
+    }
+
+    /// A table from words that were kept, whatever they are: every call finds out whether it is sound.
+    pub fn from_words(words: [u16; WORDS]) -> Table {
+        Table { words }
+    }
+
+    /// The words to keep. As bytes, the low one first, they are what `./boltclover fault` reads.
+    pub fn words(&self) -> &[u16; WORDS] {
+        &self.words
     }
 
     /// The commands, in the first bytes of `out`, which has at least `COMMAND_ROOM` bytes.

@@ -1,4 +1,5 @@
-//! A caller of the wrapper: makes a table, brings two events into conflict, lists the pair, is refused, and runs a tape.
+//! A caller of the wrapper: makes a table, brings two events into conflict, lists the pair, is refused, runs a tape, and asks what is wrong with a
+//! damaged table.
 use boltclover::{Conflict, Node, Table, Vertex, VirtualConflict};
 
 fn narrow(bytes: &[u8]) -> u16 {
@@ -69,5 +70,11 @@ fn main() {
     let run = table.run(&tape, &mut out, 1000).unwrap();
     println!("run of {} bytes: {:?}, {} handled, {} bytes, {} unread", tape.len(), run.stop, run.handled, run.written, run.rest.len());
     say(&out[..run.written]);
-    println!("sound: {}", table.is_sound());
+    println!("sound: {}, fault: {:?}", table.is_sound(), table.fault());
+
+    // The same table with a word overwritten.
+    let mut words = *table.words();
+    words[0] = 77;
+    let damaged = Table::from_words(words);
+    println!("with a word overwritten: {}, fault: {:?}", damaged.is_sound(), damaged.fault());
 }

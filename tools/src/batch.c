@@ -7,6 +7,7 @@
      M begin 2                                    make a table
      R room 4, record                             a request, as a tape holds it
      S                                            the soundness check
+     F                                            the question why the table is damaged
      P defect 2                                   the question for a partner
      T length 4, room 4, allowance 4, tape        a run
      A length 4, bytes                            what the run before it should have written
@@ -130,7 +131,7 @@ static void deep(enum deep which, const char *table, uint16_t node, uint16_t tou
     Request match = {VIRTUAL, node, 0, touch, 0, 1, 2}, list = {.kind = LIST};
     uint8_t record[LONGEST_REQUEST];
     deep_table(which, deep_sizes[which], make, meet);
-    measured(table, " checked"), put('S', 1);
+    measured(table, " checked"), put('S', 1), put('F', 1);
     if (which == TREE_TABLE || which == WIDE_TABLE) {
         Request met = {CONFLICT, node, 255, touch, 255, 1, 2};
         put('K', 1);
@@ -160,6 +161,7 @@ static void hollow(void) {
     put(WORDS - 2, 2), put(1, 2);
     put(WORDS - 1, 2), put(255, 2);
     measured("hollow nest", " checked"), put('S', 1);
+    measured("hollow nest", " asked for its fault"), put('F', 1);
     put('B', 1);
 }
 
@@ -187,7 +189,7 @@ static void damaged(Shot *shot) {
         if (hurt[i] != words[i]) put(i, 2), put(hurt[i], 2);
     Request r = chance(&shot->dice, 1, 2) ? wild_request(shot, &t) : next_request(shot, &t);
     if (chance(&shot->dice, 1, 10)) r.kind = chance(&shot->dice, 1, 2) ? LIST : RESET;
-    put('S', 1);
+    put('S', 1), put('F', 1);
     put_question(r.node_1);
     put_request(&r, chance(&shot->dice, 1, 8) ? roll(&shot->dice, 4096) : ROOM);
     static const uint8_t tape[] = {2, 0, 5, 0};

@@ -1,4 +1,4 @@
-/* Compares the port with the original, request by request, and its refusals with a second reading of the rules.
+/* Compares the port with the original, request by request, and its refusals, and the rule and slot of a damaged table, with a second reading of the rules.
      compare ORIGINAL [SEED [REQUESTS]]
    ORIGINAL is the original's program (docs/DIFFERENCES.md). Requests are made up from SEED (1), until REQUESTS (250000) were
    accepted. Exit status: 0 nothing differs, 1 something differs, 2 a wrong call, or ORIGINAL does not run. */
@@ -20,7 +20,7 @@ enum { ROOM = 8192, RUN_BYTES = 65536, BATCH = 2000, FILL = 0xa5 };
 /* ---- counts */
 
 static struct {
-    unsigned long accepted[ROWS], refused[14], at_side[14][3], stops[4], runs, tapes, tables, kept_sound, damaged, broken[9], nests, nests_broken[9], padded_tapes, padding, differences, shots, begins;
+    unsigned long accepted[ROWS], refused[14], at_side[14][3], stops[4], runs, tapes, tables, kept_sound, damaged, broken[9], nests, nests_broken[9], hurt, hurt_broken[9], faults, padded_tapes, padding, differences, shots, begins;
     unsigned long by_plan[PLANS], nested_expansions[3], commands;
     int deepest, largest_tree, longest_way, largest_ring;
     unsigned char begin_used[257];
@@ -147,6 +147,21 @@ static void hold_partners(long wrong) {
     else printf("  %s\n", wrong == TABLE_CHANGED ? "the table was changed" : wrong == BAD_LISTING ? "the listing names another number, or one twice" : "a nest could not be matched");
 }
 
+/* Rule and slot of a table against the second reading; says the rule. */
+static int hold_fault(const uint16_t *words) {
+    static View t;
+    uint16_t kept[WORDS], at = 999;
+    int slot;
+    read_view(&t, words);
+    memcpy(kept, words, sizeof kept);
+    int broken = broken_rule(&t, &slot), given = boltclover_fault(words, &at);
+    counts.faults++;
+    if ((given != broken || at != slot) && difference("rule or slot", shot_number, step_number, NULL))
+        printf("  the port names S%d at slot %d, the second reading S%d at slot %d\n", given, at, broken, slot);
+    if (memcmp(kept, words, sizeof kept)) difference("the question for a fault changed the table", shot_number, step_number, NULL);
+    return broken;
+}
+
 /* One request: number and side against the second reading, a refusal's bytes and table against those before, an accepted one's
    against the original's. Says whether it was accepted; what was said stands in out. */
 static int try_request(const char *original, uint16_t *words, const Request *r, size_t room, uint8_t *out, boltclover_size *written) {
@@ -172,7 +187,7 @@ static int try_request(const char *original, uint16_t *words, const Request *r, 
     Row row = row_of(&before, r);
     counts.accepted[row]++;
     measure(&before, r, row, &after);
-    if (is_sound(&after) && boltclover_sound(words)) counts.kept_sound++;
+    if (!hold_fault(words) && boltclover_sound(words)) counts.kept_sound++;
     else difference("a sound table did not stay sound", shot_number, step_number, r);
     hold_partners(wrong_partner(words, &after, r->node_1, &counts.partners));
     compare_with(original, &before, r, out, *written, &after);
@@ -193,7 +208,7 @@ static void try_damage(const char *original, Shot *shot, const uint16_t *words) 
     Request r = chance(&shot->dice, 1, 2) ? wild_request(shot, &t) : next_request(shot, &t);
     if (chance(&shot->dice, 1, 10)) r.kind = chance(&shot->dice, 1, 2) ? LIST : RESET;
     read_view(&t, hurt);
-    int broken = broken_rule(&t), sound = !broken;
+    int broken = hold_fault(hurt), sound = !broken;
     if (boltclover_sound(hurt) != sound) difference(sound ? "sound to the second reading alone" : "sound to the port alone", shot_number, step_number, NULL);
     counts.damaged++, counts.broken[broken]++;
     hold_partners(wrong_partner(hurt, &t, r.node_1, &counts.partners));
@@ -208,6 +223,21 @@ static void try_damage(const char *original, Shot *shot, const uint16_t *words) 
         difference("a run on a damaged table", shot_number, step_number, NULL);
 }
 
+/* Damage upon damage, so that a rule fails at several slots and several rules fail; on dice of its own, and for the check and the question
+   for the fault alone. */
+static void try_faults(Shot aside, const uint16_t *words) {
+    static View t;
+    uint16_t hurt[WORDS];
+    memcpy(hurt, words, sizeof hurt);
+    read_view(&t, words); /* what is damaged next is chosen on the sound table */
+    for (int i = 0; i < 4; i++) {
+        damage_table(&aside, &t, hurt);
+        int broken = hold_fault(hurt);
+        counts.hurt++, counts.hurt_broken[broken]++;
+        if (boltclover_sound(hurt) != !broken) difference("soundness of a table damaged again", shot_number, step_number, NULL);
+    }
+}
+
 /* ---- nests: matched, and every defect's partner asked for; sound and bent, for the check alone, which other requests only start with */
 
 static void try_nest(Shot *shot, uint32_t depth) {
@@ -220,7 +250,7 @@ static void try_nest(Shot *shot, uint32_t depth) {
         if (i) bend_nest(shot, bent, depth);
         memcpy(kept, bent, sizeof kept);
         read_view(&t, bent);
-        int broken = broken_rule(&t);
+        int broken = hold_fault(bent);
         counts.nests++, counts.nests_broken[broken]++;
         if (boltclover_sound(bent) != !broken || memcmp(kept, bent, sizeof kept) || (!i && broken))
             difference(broken ? "a nest sound to the port alone" : "a nest sound to the second reading alone", shot_number, i, NULL);
@@ -342,7 +372,7 @@ static void play(const char *original, uint64_t seed) {
     counts.shots++, counts.by_plan[shot.plan]++;
     counts.begins += !counts.begin_used[shot.begin], counts.begin_used[shot.begin] = 1;
     for (step_number = 0; step_number < shot.length; step_number++) {
-        if (chance(&shot.dice, 1, 12)) try_damage(original, &shot, words);
+        if (chance(&shot.dice, 1, 12)) try_damage(original, &shot, words), try_faults(shot, words);
         read_view(&t, words);
         size_t room = chance(&shot.dice, 1, 40) ? roll(&shot.dice, 4096) : chance(&shot.dice, 1, 2) ? ROOM : 4096;
         Request r = chance(&shot.dice, 1, 8) ? wild_request(&shot, &t) : next_request(&shot, &t);
@@ -371,8 +401,11 @@ static void report(uint64_t seed) {
     printf("deepest nesting %d, largest ring %d, largest tree %d nodes, longest way to a root %d nodes\n", counts.deepest, counts.largest_ring, counts.largest_tree, counts.longest_way + 1);
     printf("damaged tables: %lu, still sound %lu; the first rule broken:", counts.damaged, counts.broken[0]);
     for (int i = 1; i < 9; i++) printf(" S%d %lu%s", i, counts.broken[i], i < 8 ? "," : "\n");
+    printf("tables damaged again and again: %lu, still sound %lu; the first rule broken:", counts.hurt, counts.hurt_broken[0]);
+    for (int i = 1; i < 9; i++) printf(" S%d %lu%s", i, counts.hurt_broken[i], i < 8 ? "," : "\n");
     printf("nests of 50 and of 85 blossoms: %lu, sound %lu; the first rule broken:", counts.nests, counts.nests_broken[0]);
     for (int i = 1; i < 9; i++) printf(" S%d %lu%s", i, counts.nests_broken[i], i < 8 ? "," : "\n");
+    printf("rule and slot compared: %lu tables\n", counts.faults);
     printf("refusals:");
     for (int i = 1; i < 14; i++) printf(" %d: %lu%s", i, counts.refused[i], i < 13 ? "," : "\n");
     printf("of these at side 1 and 2:");

@@ -33,18 +33,20 @@ int inside(const View *t, uint32_t n, uint32_t x) {
 
 static int defect_inside(const View *t, uint32_t touch, uint32_t n) { return is_defect(t, touch) && inside(t, touch, n); }
 
-/* ---- soundness */
+/* ---- soundness: each rule gives the lowest slot at which it fails, or NOWHERE */
+
+enum { NOWHERE = -1 };
 
 static int s1(const View *t) {
     if (t->begin < 1 || t->begin > 256 || t->defects > t->begin || t->begin + t->blossoms > 256) return 0;
     for (uint32_t i = 0; i < SLOTS; i++) {
         const Slot *s = &t->slot[i];
         int past = i < t->begin ? i >= t->defects : i >= t->begin + t->blossoms;
-        if (s->mark > SHRINK || (past && s->mark != EMPTY)) return 0;
-        if (s->mark == EMPTY && !(lone(s) && s->sibling == NONE && s->ring == NONE && empty_link(s->link))) return 0;
-        if (s->ring != NONE && !is_blossom(t, i)) return 0;
+        if (s->mark > SHRINK || (past && s->mark != EMPTY)) return i;
+        if (s->mark == EMPTY && !(lone(s) && s->sibling == NONE && s->ring == NONE && empty_link(s->link))) return i;
+        if (s->ring != NONE && !is_blossom(t, i)) return i;
     }
-    return 1;
+    return NOWHERE;
 }
 
 static int names_present(const View *t, uint32_t n) { return n == NONE || present(t, n); }
@@ -52,9 +54,9 @@ static int names_present(const View *t, uint32_t n) { return n == NONE || presen
 static int s2(const View *t) {
     for (int i = 0; i < SLOTS; i++) {
         const Slot *s = &t->slot[i];
-        if (!names_present(t, s->parent) || !names_present(t, s->child) || !names_present(t, s->sibling) || !names_present(t, s->ring)) return 0;
+        if (!names_present(t, s->parent) || !names_present(t, s->child) || !names_present(t, s->sibling) || !names_present(t, s->ring)) return i;
     }
-    return 1;
+    return NOWHERE;
 }
 
 /* Stay, alone, with touch and both throughs: what both halves of a pair and a node matched to a virtual vertex have */
@@ -67,15 +69,15 @@ static int s3(const View *t) {
         const Slot *s = &t->slot[i];
         if (!outer(s) || !lone(s)) continue;
         if (s->mark == GROW && s->sibling == NONE && empty_link(s->link)) continue;
-        if (!half_matched(s)) return 0;
+        if (!half_matched(s)) return i;
         if (s->sibling == NONE) {
-            if (s->link.peer_touch != NONE) return 0;
+            if (s->link.peer_touch != NONE) return i;
         } else {
             const Slot *peer = &t->slot[s->sibling];
-            if (s->sibling == i || !half_matched(peer) || peer->sibling != i || !mirrored(s->link, peer->link) || s->link.peer_touch == NONE) return 0;
+            if (s->sibling == i || !half_matched(peer) || peer->sibling != i || !mirrored(s->link, peer->link) || s->link.peer_touch == NONE) return i;
         }
     }
-    return 1;
+    return NOWHERE;
 }
 
 static int s4(const View *t) {
@@ -87,9 +89,9 @@ static int s4(const View *t) {
         int root = s->mark == GROW && s->child != NONE && s->parent == NONE && s->sibling == NONE && empty_link(s->link);
         int minus = s->mark == SHRINK && full_link(s->link) && parent == GROW && one_child;
         int plus = s->mark == GROW && full_link(s->link) && s->sibling == NONE && parent == SHRINK;
-        if (!root && !minus && !plus) return 0;
+        if (!root && !minus && !plus) return i;
     }
-    return 1;
+    return NOWHERE;
 }
 
 /* the nodes from first along siblings, until `stop`; 0 if one comes twice or the way does not end there */
@@ -111,63 +113,69 @@ static int s5(const View *t) {
         if (t->slot[i].child == NONE) {
             for (int j = 0; j < SLOTS; j++) seen[j] = 0;
         } else if (!walked(t, t->slot[i].child, NONE, seen)) {
-            return 0;
+            return i;
         }
         for (int j = 0; j < SLOTS; j++)
-            if (seen[j] != (outer(&t->slot[j]) && t->slot[j].parent == i)) return 0;
+            if (seen[j] != (outer(&t->slot[j]) && t->slot[j].parent == i)) return i;
     }
-    return 1;
+    return NOWHERE;
 }
 
 static int s6(const View *t) {
     unsigned char seen[SLOTS];
     for (uint32_t i = 0; i < SLOTS; i++) {
         const Slot *s = &t->slot[i];
-        if (s->mark == INNER && (!full_link(s->link) || s->child != NONE)) return 0;
+        if (s->mark == INNER && (!full_link(s->link) || s->child != NONE)) return i;
         if (!is_blossom(t, i)) continue;
-        if (s->ring == NONE || !walked(t, s->ring, s->ring, seen)) return 0;
+        if (s->ring == NONE || !walked(t, s->ring, s->ring, seen)) return i;
         int count = 0;
         for (int j = 0; j < SLOTS; j++) {
-            if (seen[j] != (t->slot[j].mark == INNER && t->slot[j].parent == i)) return 0;
+            if (seen[j] != (t->slot[j].mark == INNER && t->slot[j].parent == i)) return i;
             count += seen[j];
         }
-        if (count < 3 || count % 2 == 0) return 0;
+        if (count < 3 || count % 2 == 0) return i;
     }
-    return 1;
+    return NOWHERE;
 }
 
 static int s7(const View *t) {
     for (uint32_t i = 0; i < SLOTS; i++) {
         const Slot *s = &t->slot[i];
-        if (s->mark == INNER && (!is_blossom(t, s->parent) || s->parent <= i)) return 0;
+        if (s->mark == INNER && (!is_blossom(t, s->parent) || s->parent <= i)) return i;
         if (!outer(s)) continue;
         uint32_t n = i;
         int steps = 0;
         while (t->slot[n].parent != NONE && steps <= 256) n = t->slot[n].parent, steps++;
-        if (steps > 256) return 0;
+        if (steps > 256) return i;
     }
-    return 1;
+    return NOWHERE;
 }
 
 static int s8(const View *t) {
     for (uint32_t i = 0; i < SLOTS; i++) {
         const Slot *s = &t->slot[i];
         if (s->mark == EMPTY) continue;
-        if (s->link.touch != NONE && !defect_inside(t, s->link.touch, i)) return 0;
+        if (s->link.touch != NONE && !defect_inside(t, s->link.touch, i)) return i;
         uint32_t other = s->mark == INNER || lone(s) ? s->sibling : s->parent;
-        if (s->link.peer_touch != NONE && !defect_inside(t, s->link.peer_touch, other)) return 0;
+        if (s->link.peer_touch != NONE && !defect_inside(t, s->link.peer_touch, other)) return i;
     }
-    return 1;
+    return NOWHERE;
 }
 
-int broken_rule(const View *t) {
+int broken_rule(const View *t, int *slot) {
     int (*const rules[])(const View *) = {s1, s2, s3, s4, s5, s6, s7, s8};
-    for (int i = 0; i < 8; i++)
-        if (!rules[i](t)) return i + 1;
+    for (int i = 0; i < 8; i++) {
+        *slot = rules[i](t);
+        if (*slot != NOWHERE) return i + 1;
+    }
+    *slot = 0;
     return 0;
 }
 
-int is_sound(const View *t) { return broken_rule(t) == 0; }
+int is_sound(const View *t) {
+    int slot;
+    return broken_rule(t, &slot) == 0;
+}
 
 /* ---- the numbers given back */
 

@@ -1,5 +1,5 @@
 /* Plays a batch (batch.c) on the library that it is linked with: play <BATCH >WHAT-HAPPENED 2>STACK
-   Each call gives a line: what was called, the number given back and its side, the bytes written, or what a partner is, and the words of the
+   Each call gives a line: what was called, the number given back and its side, the bytes written, or what a partner or a fault is, and the words of the
    table that changed.
    All bytes and words are in it, the first of them as they are and all of them in a sum; so two libraries that do the same give the same
    lines. Bytes lie at any address, the table at one that is aligned by 2 and no more. */
@@ -150,13 +150,14 @@ static struct {
     uint16_t stop, side;
     uint32_t handled;
     boltclover_size written, unread;
-    uint16_t kind, partner;
+    uint16_t slot, kind, partner;
     uint32_t through, peer_through;
 } told;
 
 static void nothing(void) {}
 static void make(void) { answer = boltclover_make(table, begin); }
 static void check(void) { answer = boltclover_sound(table); }
+static void find_fault(void) { answer = boltclover_fault(table, &told.slot); }
 static void ask(void) { answer = boltclover_partner(table, defect, &told.kind, &told.partner, &told.through, &told.peer_through); }
 static void request(void) { answer = call_port(table, &asked, out, room, &told.written, &told.side); }
 static void run(void) {
@@ -194,7 +195,7 @@ static void say_stack(const char *name, const Stack *stack) {
 
 static void do_call(void (*call)(void)) {
     told.stop = 9, told.side = 9, told.handled = 9, told.written = 77777, told.unread = 77777;
-    told.kind = 9, told.partner = 9, told.through = 9, told.peer_through = 9;
+    told.slot = 9, told.kind = 9, told.partner = 9, told.through = 9, told.peer_through = 9;
     if (!measured[0]) {
         call_with(&common_stack, call);
         return;
@@ -205,7 +206,7 @@ static void do_call(void (*call)(void)) {
 
 /* ---- entries */
 
-static uint32_t number, requests, accepted, questions, runs, tables, stored;
+static uint32_t number, requests, accepted, questions, faults, runs, tables, stored;
 
 static void head(const char *what) { say_number(++number), say(" "), say(what); }
 
@@ -284,6 +285,7 @@ int start(int count, char **arguments) {
         case 'M': begin = take(2), head("make"), say_spaced(begin), do_call(make), say(":"), say_spaced(answer), say_words(); break;
         case 'R': play_request(); break;
         case 'S': head("sound:"), do_call(check), say_spaced(answer), say_words(); break;
+        case 'F': head("fault:"), do_call(find_fault), say_spaced(answer), say(" slot"), say_spaced(told.slot), say_words(), faults++; break;
         case 'P': play_question(); break;
         case 'T': play_run(); break;
         case 'A': play_answers(); break;
@@ -300,7 +302,7 @@ int start(int count, char **arguments) {
         }
     }
     say("requests"), say_spaced(requests), say(" accepted"), say_spaced(accepted), say(" refused"), say_spaced(requests - accepted);
-    say(" questions"), say_spaced(questions), say(" damaged tables"), say_spaced(tables), say(" runs"), say_spaced(runs), say(" tapes with stored answers"), say_spaced(stored), say("\n");
+    say(" questions"), say_spaced(questions), say(" faults asked for"), say_spaced(faults), say(" damaged tables"), say_spaced(tables), say(" runs"), say_spaced(runs), say(" tapes with stored answers"), say_spaced(stored), say("\n");
     say_stack("any other call", &common_stack);
     return 0;
 }

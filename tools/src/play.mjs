@@ -15,7 +15,7 @@ if (short > 0) library.memory.grow(short);
 const memory = new Uint8Array(library.memory.buffer), view = new DataView(library.memory.buffer);
 const words = new Uint16Array(library.memory.buffer, table, WORDS);
 const WRITTEN = told, UNREAD = told + 8, HANDLED = told + 16, STOP = told + 20, SIDE = told + 22;
-const THROUGH = told + 24, PEER_THROUGH = told + 28, KIND = told + 32, PARTNER = told + 34;
+const THROUGH = told + 24, PEER_THROUGH = told + 28, KIND = told + 32, PARTNER = told + 34, SLOT = told + 36;
 const known = new Uint16Array(WORDS);
 let kept = new Uint16Array(WORDS);
 
@@ -106,7 +106,7 @@ function touched() {
 function call(name, ...values) {
     view.setUint16(STOP, 9, true), view.setUint16(SIDE, 9, true), view.setUint32(HANDLED, 9, true);
     view.setBigUint64(WRITTEN, 77777n, true), view.setBigUint64(UNREAD, 77777n, true);
-    view.setUint16(KIND, 9, true), view.setUint16(PARTNER, 9, true), view.setUint32(THROUGH, 9, true), view.setUint32(PEER_THROUGH, 9, true);
+    view.setUint16(SLOT, 9, true), view.setUint16(KIND, 9, true), view.setUint16(PARTNER, 9, true), view.setUint32(THROUGH, 9, true), view.setUint32(PEER_THROUGH, 9, true);
     if (measured) deepest = Math.max(deepest, touched()), memory.fill(FILL, 0, STACK);
     const answer = library['boltclover_' + name](...values) >>> 0;
     if (measured) {
@@ -117,7 +117,7 @@ function call(name, ...values) {
     return answer;
 }
 
-let number = 0, requests = 0, accepted = 0, questions = 0, runs = 0, tables = 0, stored = 0;
+let number = 0, requests = 0, accepted = 0, questions = 0, faults = 0, runs = 0, tables = 0, stored = 0;
 
 function playRequest() {
     const room = take(4), length = take(2), kind = take(2);
@@ -130,6 +130,12 @@ function playRequest() {
     requests++, accepted += answer === 0 ? 1 : 0;
     const head = [number, ['', 'conflict', 'virtual', 'expand', 'reset', 'list'][kind], ...fields].join(' ');
     say(`${head} room ${room}: ${answer} side ${kind < 3 ? view.getUint16(SIDE, true) : 0}${saidBytes(kind === 4 ? 0n : view.getBigUint64(WRITTEN, true))}${saidWords()}`);
+}
+
+function playFault() {
+    const answer = call('fault', table, SLOT);
+    number++, faults++;
+    say(`${number} fault: ${answer} slot ${view.getUint16(SLOT, true)}${saidWords()}`);
 }
 
 function playQuestion() {
@@ -175,6 +181,7 @@ while (at < input.length) {
         say(`${number} make ${begin}: ${call('make', table, begin)}${saidWords()}`);
     } else if (what === 'R') playRequest();
     else if (what === 'S') say(`${++number} sound: ${call('sound', table)}${saidWords()}`);
+    else if (what === 'F') playFault();
     else if (what === 'P') playQuestion();
     else if (what === 'T') playRun();
     else if (what === 'A') playAnswers();
@@ -185,6 +192,6 @@ while (at < input.length) {
     else if (what === 'N') say(`${++number} == ${takeName()}\n`);
     else process.exit(2);
 }
-say(`requests ${requests} accepted ${accepted} refused ${requests - accepted} questions ${questions} damaged tables ${tables} runs ${runs} tapes with stored answers ${stored}\n`);
+say(`requests ${requests} accepted ${accepted} refused ${requests - accepted} questions ${questions} faults asked for ${faults} damaged tables ${tables} runs ${runs} tapes with stored answers ${stored}\n`);
 flush();
 writeAll(2, `any other call ${Math.max(deepest, touched())}\n`);

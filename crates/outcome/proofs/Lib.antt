@@ -1,4 +1,5 @@
 pub mod Outcomes
 pub mod Verdicts
 pub mod PartnerAnswers
+pub mod FaultAnswers
 pub mod RunOutcomes

@@ -5,3 +5,4 @@ pub mod Told
 pub mod Numbered
 pub mod Partner
 pub mod PartnerInNumbers
+pub mod FaultInNumbers

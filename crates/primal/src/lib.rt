@@ -12,6 +12,7 @@ use record::VirtualConflict;
 use refusal::Answer;
 use refusal::Refusal;
 use refusal::Side;
+use rules::fault::Fault;
 use slot::Node;
 use table::Table;
 use tape::next::Next;
@@ -23,6 +24,7 @@ ghost use Rattle.record.specs.Records.{requestBytes, answerBytes};
 ghost use Rattle.record.specs.Reading.{Read};
 ghost use Rattle.record.specs.Writing.{outOf, wroteOf, wrote};
 ghost use Rattle.rules.specs.Sound.{sound};
+ghost use Rattle.rules.specs.Fault.{firstFault};
 ghost use Rattle.outcome.specs.Call.{Call, Reset};
 ghost use Rattle.outcome.specs.Partner.{partnerOf};
 ghost use Rattle.outcome.specs.Tape.{Tape};
@@ -50,6 +52,16 @@ pub fn is_sound(t: &Table) -> bool
     ensures { λ r. ⌜ r ≡ sound (tableOf (now (t .entry))) ⌝ }
 {
     sound::is_sound(t)
+}
+
+// Why a table is damaged: the first rule of S1 to S8 that fails, and the lowest slot at which it fails; nowhere exactly if sound.
+pub fn fault(t: &Table) -> Fault
+    ensures { λ r. ⌜ r ≡ firstFault (tableOf (now (t .entry))) ⌝ }
+{
+    if sound::is_sound(t) {
+        return Fault::Nowhere;
+    }
+    fault::first_fault(t)
 }
 
 // The three requests. Done gives the bytes of commands written.

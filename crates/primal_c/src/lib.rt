@@ -9,8 +9,10 @@ ghost use Rattle.table.specs.Words.{tableOf};
 ghost use Rattle.record.specs.Records.{conflictFrom, virtualFrom, expansionFrom};
 ghost use Rattle.record.specs.declared.request.Request.the-variants as Q;
 ghost use Rattle.rules.specs.Sound.{sound};
+ghost use Rattle.rules.specs.Fault.{firstFault};
 ghost use Rattle.outcome.specs.Partner.{partnerOf};
 ghost use Rattle.outcome.specs.PartnerInNumbers.{ToldPartner};
+ghost use Rattle.outcome.specs.FaultInNumbers.{ToldFault};
 ghost use Rattle.outcome.specs.Numbered.{Called, CalledWithSide, WasReset, WasMade, oneIf, Run};
 
 #[no_mangle]
@@ -34,6 +36,15 @@ pub extern "C" fn boltclover_sound(table: &Table) -> u16
     ensures { λ r. ⌜ r ≡ oneIf (sound (tableOf (now (table .entry)))) ⌝ }
 {
     if primal::is_sound(table) { 1 } else { 0 }
+}
+
+// Gives 0 for a sound table, or the number of the rule that fails, 1 to 8.
+#[no_mangle]
+pub extern "C" fn boltclover_fault(table: &Table, slot: &mut u16) -> u16
+    ensures { λ r. ⌜ ToldFault (firstFault (tableOf (now (table .entry)))) r (now (slot .exit)) ⌝ }
+{
+    let answer = primal::fault(table);
+    outcome::fault::tell(answer, slot)
 }
 
 #[no_mangle]

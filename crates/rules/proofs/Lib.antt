@@ -2,6 +2,7 @@ pub mod Runs
 pub mod Script
 pub mod RuleExamples
 pub mod PartnerExamples
+pub mod FaultExamples
 pub mod SideExamples
 pub mod ConcernedExamples
 pub mod RunInduction

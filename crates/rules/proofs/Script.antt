@@ -6,7 +6,8 @@ use Rattle.table.specs.Place.{place}
 use Rattle.table.specs.Climb.{insideWithin, outerBlossomWithin, secondOuterWithin}
 use Rattle.rules.specs.Act.{skip, say, change, _then_, look, read, choose, alter}
 use Rattle.rules.specs.Walk.{walk, ends, isIn, allIn, allBelow, firstShared}
-use Rattle.rules.specs.Sound.{s1, s2, s3, s4, s5, s6, s7, s8, allHold, sound, lowestFault, firstFaultOf}
+use Rattle.rules.specs.Sound.{s1, s2, s3, s4, s5, s6, s7, s8, allHold, sound}
+use Rattle.rules.specs.Fault.{lowestFault, firstFaultOf}
 use Rattle.rules.specs.Trees.{loaded, rootWithin}
 use Rattle.rules.specs.Matching.{temporaryMatch, temporaryMatchVirtual, unlessNone, subtree, matchSiblings, matchSubtree, augmentSubtree, augmentWithin}
 use Rattle.rules.specs.Blossom.{relinked, relisted, replaceChild, adopted, moved, movedUpTo, lastBelow, gathered, ringUp, ringDown, ringed, blossomPlaced, createBlossom}

@@ -2,6 +2,7 @@ pub mod Act
 pub mod Slots
 pub mod Walk
 pub mod Sound
+pub mod Fault
 pub mod Trees
 pub mod Matching
 pub mod Blossom

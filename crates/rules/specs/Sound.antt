@@ -1,5 +1,5 @@
 -- "Sound means, judged in this order": the rules S1 to S8, each a test of the table at a slot.
-use Prim.Native.Nat.{ℕ, zero, suc, _+_, _%_}
+use Prim.Native.Nat.{ℕ, _+_, _%_}
 use mathlib.Core.Bool.{Bool, true, false, not, _&&_, _||_}
 use mathlib.Core.List.{List, [], _∷_}
 use lib.Dec.{eqb, leb, ltb}
@@ -10,6 +10,8 @@ use Rattle.slot.specs.Slot.{Slot, noLink, mirror}
 use Rattle.table.specs.Table.{Table, at}
 use Rattle.table.specs.Nodes.{isBlossom, isDefect, present, outer, inner}
 use Rattle.table.specs.Climb.{inside}
+use Rattle.rules.specs.declared.fault.Rule.{Rule}
+use Rattle.rules.specs.declared.fault.Rule.the-variants.{S1, S2, S3, S4, S5, S6, S7, S8}
 use Rattle.rules.specs.Slots.{isNone, isSome, isVertex, isFull, sameLink, isStay, isGrow, isShrink, isDamaged, up, next}
 use Rattle.rules.specs.Walk.{walk, ends, isIn, allIn, allBelow}
 
@@ -192,9 +194,6 @@ s8 t n =
 
 -- ---- all of them
 
-pub data Rule : Type 0 where
-  S1 S2 S3 S4 S5 S6 S7 S8 : Rule
-
 abbrev pub holds : Rule → Table → ℕ → Bool
 holds S1 = s1
 holds S2 = s2
@@ -215,26 +214,3 @@ allHold (r ∷ rs) t = let rest = allHold rs t in allBelow (holds r t) 256 && re
 
 unfoldable pub sound : Table → Bool
 sound t = allHold rules t
-
--- ---- which rule fails, and where
-
-pub data Fault : Type 0 where
-  noFault : Fault
-  faultAt : Rule → ℕ → Fault
-
--- the lowest slot from n on at which r fails, k slots in all
-unfoldable pub lowestFault : Rule → Table → ℕ → ℕ → Fault
-lowestFault r t zero n = noFault
-lowestFault r t (suc k) n = let rest = lowestFault r t k (suc n) in pick (holds r t n) rest (faultAt r n)
-
-abbrev pub orElse : Fault → Fault → Fault
-orElse noFault g = g
-orElse (faultAt r n) g = faultAt r n
-
--- "the first in 01's order that fails, and the slot is the lowest at which it fails"
-unfoldable pub firstFaultOf : List Rule → Table → Fault
-firstFaultOf [] t = noFault
-firstFaultOf (r ∷ rs) t = let rest = firstFaultOf rs t in orElse (lowestFault r t 256 0) rest
-
-abbrev pub firstFault : Table → Fault
-firstFault t = firstFaultOf rules t

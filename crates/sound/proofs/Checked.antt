@@ -21,7 +21,8 @@ use Rattle.table.proofs.TableLaws.{at-out}
 use Rattle.table.specs.Nodes.{present, outer, inner}
 use Rattle.rules.specs.Slots.{isNone, sameLink, up}
 use Rattle.rules.specs.Walk.{ends}
-use Rattle.rules.specs.Sound.{_⇒_, S5, S7, sizesHold, isDefectInside, isBare, s5, s7, sound}
+use Rattle.rules.specs.declared.fault.Rule.the-variants.{S5, S7}
+use Rattle.rules.specs.Sound.{_⇒_, sizesHold, isDefectInside, isBare, s5, s7, sound}
 use Rattle.theorems_soundness.specs.Facts.{Sizes, Given, Rest}
 use Rattle.theorems_soundness.specs.FactsOfBlossoms.{PresentBlossom, Ring}
 use Rattle.theorems_soundness.proofs.Reflect.{tests, true-test, test-true, test-false, and→, imp→, eqb-no, not-eqb↔}

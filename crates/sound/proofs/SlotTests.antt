@@ -12,7 +12,8 @@ use Rattle.slot.specs.State.{isPresent}
 use Rattle.table.specs.Table.{Table, at, Full}
 use Rattle.table.specs.Nodes.{isBlossom, outer, inner}
 use Rattle.rules.specs.Slots.{isNone, isSome, sameLink, isStay, isGrow, isShrink, up, next}
-use Rattle.rules.specs.Sound.{_⇒_, S8, farEnd, isDefectInside, isBare, s8, sound}
+use Rattle.rules.specs.declared.fault.Rule.the-variants.{S8}
+use Rattle.rules.specs.Sound.{_⇒_, farEnd, isDefectInside, isBare, s8, sound}
 use Rattle.theorems_soundness.specs.Facts.{Given, Core, Rest}
 use Rattle.theorems_soundness.specs.FactsOfNodes.{FullLink, Virtual, Paired, Kind, free-node, virtual-node, paired-node, root-node, minus-node, plus-node}
 use Rattle.theorems_soundness.proofs.Reflect.{tests, and→, →and, →or, imp→, →imp, eqb-no}

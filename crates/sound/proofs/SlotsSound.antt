@@ -12,7 +12,9 @@ use Rattle.table.specs.Table.{Table, at, Full}
 use Rattle.table.specs.Nodes.{present, outer, inner}
 use Rattle.rules.specs.Slots.{up, next}
 use Rattle.rules.specs.Walk.{ends}
-use Rattle.rules.specs.Sound.{Rule, S1, S2, S3, S4, S5, S6, S7, S8, holds, isDefectInside, s5, s6, sound}
+use Rattle.rules.specs.declared.fault.Rule.{Rule}
+use Rattle.rules.specs.declared.fault.Rule.the-variants.{S1, S2, S3, S4, S5, S6, S7, S8}
+use Rattle.rules.specs.Sound.{holds, isDefectInside, s5, s6, sound}
 use Rattle.theorems_soundness.specs.Facts.{Sizes, Given, Names, Pointers, Core}
 use Rattle.theorems_soundness.specs.FactsOfNodes.{Kind, free-node, virtual-node, paired-node, root-node, minus-node, plus-node, OuterChild}
 use Rattle.theorems_soundness.specs.FactsOfBlossoms.{PresentBlossom, Ring, InBlossom}

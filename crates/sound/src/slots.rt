@@ -18,7 +18,7 @@ ghost use Rattle.sound_walks.specs.Pass.{allFrom};
 ghost use Rattle.sound.specs.OneSlot.{slotHolds, isVacant};
 
 // One past the last blossom given out.
-fn end_of(t: &Table) -> u32
+pub fn end_of(t: &Table) -> u32
     ensures { λ r. ⌜ r ≡ tableOf (now (t .entry)) .begin + tableOf (now (t .entry)) .blossoms ⌝ }
 {
     let begin = table::counts::begin(t);

@@ -5,7 +5,7 @@ use slot::Slot;
 use slot::State;
 ghost use mathlib.Core.Path.{_≡_};
 ghost use Rattle.slot.specs.Slot.{linkOf, slotOf, noLink};
-ghost use Rattle.rules.specs.Slots.{sameLink, isStay, isGrow, isShrink};
+ghost use Rattle.rules.specs.Slots.{sameLink, isFull, isStay, isGrow, isShrink, isDamaged};
 ghost use Rattle.rules.specs.Sound.{isBare};
 ghost use Rattle.sound_slots.specs.Links.{isThrough};
 
@@ -48,6 +48,19 @@ pub fn is_shrink(s: State) -> bool
     }
 }
 
+pub fn is_damaged(s: State) -> bool
+    ensures { λ r. ⌜ r ≡ isDamaged s ⌝ }
+{
+    match s {
+        State::Empty => false,
+        State::Inner => false,
+        State::Stay => false,
+        State::Grow => false,
+        State::Shrink => false,
+        State::Damaged => true,
+    }
+}
+
 pub fn is_no_link(l: Link) -> bool
     ensures { λ r. ⌜ r ≡ sameLink (linkOf l) noLink ⌝ }
 {
@@ -67,6 +80,18 @@ pub fn is_through(l: Link) -> bool
         l.through.0 != slot::number::NO_VERTEX,
         l.peer_through.0 != slot::number::NO_VERTEX,
     )
+}
+
+// Both touches too.
+pub fn is_full(l: Link) -> bool
+    ensures { λ r. ⌜ r ≡ isFull (linkOf l) ⌝ }
+{
+    let here = both(
+        l.touch.0 != slot::number::NO_NODE,
+        l.through.0 != slot::number::NO_VERTEX,
+    );
+    let there = both(here, l.peer_touch.0 != slot::number::NO_NODE);
+    both(there, l.peer_through.0 != slot::number::NO_VERTEX)
 }
 
 pub fn same_link(l: Link, m: Link) -> bool

@@ -1,13 +1,12 @@
 -- The pass with marks along child lists gives S5.
 use mathlib.Core.Path.{_≡_, refl, sym, ap, _∙_}
 use mathlib.Core.List.{List}
-use mathlib.Core.Bool.{Bool, true, false, _&&_, _||_, not}
-use Prim.Native.Nat.{ℕ, _≤_, _<_}
+use mathlib.Core.Bool.{Bool, true, false, _&&_, _||_}
+use Prim.Native.Nat.{ℕ, _<_}
 use native.Mathlib.Nat.{zero-add}
 use lib.Dec.{eqb}
 use lib.ListN.{length}
 use borrow.Author.Tests.{eqb-true, eq-eqb}
-use Rattle.lists.specs.Choice.{pick}
 use Rattle.slot.specs.Number.{none}
 use Rattle.table.specs.Table.{Table, at}
 use Rattle.table.specs.Nodes.{outer}
@@ -17,14 +16,10 @@ use Rattle.rules.specs.Sound.{_⇒_, children, isOuterChild, s5}
 use Rattle.table.specs.Marks.{marked}
 use Rattle.sound_walks.specs.Marks.{Walked, marking, Judged, judgedOf, sweep}
 use Rattle.sound_walks.proofs.Truth.{by-cases, and-left, and-right, and-both, when, if-then, all-to, all-from, in-all}
-use Rattle.sound_walks.proofs.Walks.{unseen, small, good, marking-length, walk-length, marking-count, marking-seen}
+use Rattle.sound_walks.proofs.Walks.{unseen, unbroken, good, marking-length, walk-length, marking-count, marking-seen}
 use Rattle.sound_walks.proofs.Sweeps.{pass-fine, pass-whole, fine-pass, fine-claim}
 use Rattle.sound_walks.proofs.SoundMarksSteps.{marking-end}
 use Rattle.sound_walks.specs.Lists.{listEnded, listStep}
-
-unbroken : (g : Bool) (n : ℕ) → n ≤ 256 → not (eqb (pick g n none) none) ≡ g
-unbroken true n h = rw (small n h)
-unbroken false n h = refl
 
 -- only outer nodes have a list
 

@@ -1,7 +1,7 @@
 -- A marking walk passes the nodes of the rules' walk: how many, and which marks it leaves.
-use mathlib.Core.Path.{_≡_, ap, _∙_}
+use mathlib.Core.Path.{_≡_, refl, ap, _∙_}
 use mathlib.Core.List.{List}
-use mathlib.Core.Bool.{Bool, true, false, _&&_, _||_, or-false, or-assoc, and-false}
+use mathlib.Core.Bool.{Bool, true, false, not, _&&_, _||_, or-false, or-assoc, and-false}
 use Prim.Native.Nat.{ℕ, zero, suc, _+_, _≤_, _<_}
 use native.Mathlib.Omega.{arith}
 use lib.Dec.{eqb}
@@ -22,6 +22,11 @@ unseen = replicate 256 0
 -- a count is not none
 pub small : (n : ℕ) → n ≤ 256 → eqb n none ≡ false
 small n h = ne-eqb n none (λ e. omega arith)
+
+-- a count that is none tells a walk that went wrong
+pub unbroken : (g : Bool) (n : ℕ) → n ≤ 256 → not (eqb (pick g n none) none) ≡ g
+unbroken true n h = rw (small n h)
+unbroken false n h = refl
 
 module _ (along : ℕ → ℕ) (mine : ℕ → Bool) where
   -- the walk ends, and all that it passes is its owner's

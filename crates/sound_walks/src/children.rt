@@ -11,7 +11,7 @@ ghost use Rattle.rules.specs.Sound.{isOuterChild};
 ghost use Rattle.sound_walks.specs.Marks.{walkedOf, judgedOf, marking, sweep};
 ghost use Rattle.sound_walks.specs.Lists.{listStep};
 
-fn is_child(t: &Table, i: Node, n: Node) -> bool
+pub fn is_child(t: &Table, i: Node, n: Node) -> bool
     ensures { λ r. ⌜ r ≡ isOuterChild (tableOf (now (t .entry))) (i .0) (n .0) ⌝ }
 {
     let outer = table::field::is_outer(t, n);
@@ -43,7 +43,7 @@ fn walk_list(t: &Table, seen: &mut [u8], i: Node, from: Node) -> u16
     }
 }
 
-fn list_step(t: &Table, seen: &mut [u8], i: Node) -> bool
+pub fn list_step(t: &Table, seen: &mut [u8], i: Node) -> bool
     ensures { λ r. ⌜ judgedOf r (now (seen .exit)) ≡ listStep (tableOf (now (t .entry))) (i .0) (now (seen .entry)) ⌝ }
 {
     let child = table::field::first_child(t, i);

@@ -4,7 +4,7 @@ use record::kind;
 
 // `#n` and a digit stand for the node at that place of the record, `#v` and a digit for the vertex; places are counted in steps of
 // two bytes. The number of a request's line is its kind: no record has kind 0.
-pub const FORMS: [u8; 1008] = *b"|conflict #n2 #n3 touch #n4 #n5 vertex #v6 #v8
+pub const FORMS: [u8; 1043] = *b"|conflict #n2 #n3 touch #n4 #n5 vertex #v6 #v8
 |virtual #n2 touch #n3 vertex #v4 virtual #v6
 |expand #n2
 |reset
@@ -17,7 +17,7 @@ pub const FORMS: [u8; 1008] = *b"|conflict #n2 #n3 touch #n4 #n5 vertex #v6 #v8
 |  pair #n2 #n3 through #v4 #v6
 |  pair #n2 virtual #v5 through #v3
 |  end
-|  refused 1: table not sound
+|  refused 1: table not sound; ./boltclover fault TABLE says why
 |  refused 2: no room for the record
 |  refused 3: no such node, or a vertex is none
 |  refused 4: a named node is not outer

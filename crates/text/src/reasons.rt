@@ -95,7 +95,16 @@ const FAULTS: [u8; 262] = *b"|cut short
 |length #n1 for kind #n0, with padding that is not zero
 ";
 
-fn write_numbers(out: &mut [u8], pos: usize, form: &[u8], a: u16, b: u16, c: u16, d: u32) -> usize {
+// A form with up to four numbers.
+pub fn write_numbers(
+    out: &mut [u8],
+    pos: usize,
+    form: &[u8],
+    a: u16,
+    b: u16,
+    c: u16,
+    d: u32,
+) -> usize {
     let mut numbers = [0u8; 8];
     put(&mut numbers, 0, a as u32, 2);
     put(&mut numbers, 2, b as u32, 2);

@@ -2,7 +2,9 @@ pub mod InTurn
 pub mod Marked
 pub mod RulesApply
 pub mod RefusalExamples
-pub mod SoundExamples
+pub mod FaultTables
+pub mod FaultExamples
+pub mod FaultWalkExamples
 pub mod RunExamples
 pub mod TurnExamples
 pub mod NamedExamples

@@ -7,7 +7,8 @@ use native.Mathlib.Omega.{arith}
 use lib.ListN.{length}
 use Rattle.slot.specs.declared.state.State.{State}
 use Rattle.slot.specs.declared.state.State.the-variants as S
-use Rattle.table.specs.Table.{Table, at}
+use Rattle.slot.specs.Slot.{emptySlot}
+use Rattle.table.specs.Table.{Table, at, put}
 use Rattle.table.specs.Words.{tableOf}
 use Rattle.table.specs.Making.{fresh}
 use Rattle.refusal.specs.declared.Answer.{Answer}
@@ -26,6 +27,9 @@ use Rattle.rules.specs.Run.{Ran, unsound, ran, runTape}
 use Rattle.outcome.specs.Tape.{HandsOut, Tape}
 use Rattle.rules.specs.Act.{World, worldOf}
 use Rattle.rules.specs.Calls.{actOf, verdict}
+use Rattle.rules.specs.Slots.{withSibling}
+use Rattle.rules.specs.declared.fault.Rule.the-variants.{S1}
+use Rattle.rules.specs.Fault.{faultAt, firstFault}
 use Rattle.rules.specs.Script.{meet, join}
 use Rattle.rules.proofs.Script.{all-rules}
 use Rattle.rules.specs.Partner.{pairedWithin}
@@ -33,6 +37,7 @@ use Rattle.outcome.specs.declared.partner.Partner.the-variants as P
 use Rattle.outcome.specs.Call.{Call}
 use Rattle.outcome.specs.Partner.{partnerOf}
 use Rattle.outcome.specs.PartnerInNumbers.{partnerKind}
+use Rattle.outcome.specs.FaultInNumbers.{faultSlot}
 use Rattle.refusal.specs.Refusal.{answerSide, answerWritten}
 use Rattle.theorems_promises.specs.LazyPorts.{room, Fresh, tape}
 use Rattle.theorems_promises.proofs.Accepted.{done}
@@ -174,6 +179,18 @@ pair-told = refl
 pub always-nobody : (words : List ℕ) → tableOf words ≡ actOf (join 0 1) (fresh 128) .table → ¬ (P.Nobody ≡ partnerOf (tableOf words) 0)
 always-nobody words made h =
     let e = ap partnerKind (h ∙ ap (λ (t : Table). partnerOf t 0) made) ∙ pair-told in absurd (omega arith)
+
+-- one that names the sizes, whatever is wrong: here an empty slot that stores a sibling
+unfoldable pub hurt : Table
+hurt = put (fresh 128) 7 (withSibling 0 emptySlot)
+
+hurt-at-7 : firstFault hurt ≡ faultAt S1 7
+unfolding all-rules hurt
+hurt-at-7 = refl
+
+pub always-the-sizes : (words : List ℕ) → tableOf words ≡ hurt → ¬ (faultAt S1 0 ≡ firstFault (tableOf words))
+always-the-sizes words made h =
+    let e = ap faultSlot (h ∙ ap firstFault made ∙ hurt-at-7) in absurd (omega arith)
 
 -- a run that handles its first record and hands back the rest
 pub only-the-first :

@@ -14,7 +14,9 @@ use Rattle.record.specs.Reading.{Read}
 use Rattle.record.specs.Writing.{Wrote, wroteOf, wrote, outOf}
 use Rattle.record.proofs.ReadInNumbers.{read-of-numbers}
 use Rattle.refusal.proofs.Numbers.{same-answer}
+use Rattle.rules.specs.declared.fault.Fault.{Fault}
 use Rattle.rules.specs.Sound.{sound}
+use Rattle.rules.specs.Fault.{firstFault}
 use Rattle.outcome.specs.declared.partner.Partner.{Partner}
 use Rattle.outcome.specs.Call.{Call, Reset}
 use Rattle.outcome.specs.Partner.{partnerOf}
@@ -63,6 +65,10 @@ sound-once words r r′ h k = h ∙ sym k
 -- .. and so is that of the question for a partner
 pub partner-once : (words : List ℕ) (d : ℕ) (r r′ : Partner) → r ≡ partnerOf (tableOf words) d → r′ ≡ partnerOf (tableOf words) d → r ≡ r′
 partner-once words d r r′ h k = h ∙ sym k
+
+-- .. and that of the question why a table is damaged
+pub fault-once : (words : List ℕ) (r r′ : Fault) → r ≡ firstFault (tableOf words) → r′ ≡ firstFault (tableOf words) → r ≡ r′
+fault-once words r r′ h k = h ∙ sym k
 
 -- reading
 pub reading-once : (tape : List ℕ) (r r′ : Reading) → Read tape r → Read tape r′ → r ≡ r′

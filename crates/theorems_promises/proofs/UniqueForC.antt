@@ -9,11 +9,13 @@ use Rattle.table.specs.Making.{beginFits}
 use Rattle.refusal.specs.Refusal.{answerNumber, answerWritten}
 use Rattle.record.specs.declared.request.Request.{Request}
 use Rattle.record.specs.declared.request.Request.the-variants as Q
+use Rattle.rules.specs.Fault.{firstFault}
 use Rattle.rules.specs.Act.{worldOf}
 use Rattle.rules.specs.Calls.{actOf, verdict}
 use Rattle.rules.specs.Run.{runTape}
 use Rattle.outcome.specs.Partner.{partnerOf}
 use Rattle.outcome.specs.PartnerInNumbers.{ToldPartner}
+use Rattle.outcome.specs.FaultInNumbers.{ToldFault}
 use Rattle.outcome.specs.Numbered.{Called, CalledWithSide, WasReset, WasMade, Run}
 use Rattle.theorems_promises.specs.Lent.{Lent}
 use Rattle.theorems_promises.proofs.Unique.{make-once, call-once, run-once}
@@ -102,3 +104,11 @@ pub partner-told-once :
     → (number ≡ number′) × (kind ≡ kind′) × (partner ≡ partner′) × (through ≡ through′) × (peer ≡ peer′)
 partner-told-once words d number number′ kind kind′ partner partner′ through through′ peer peer′ h k =
     (h .0 ∙ sym (k .0), h .1 ∙ sym (k .1), h .2 ∙ sym (k .2), h .3 ∙ sym (k .3), h .4 ∙ sym (k .4))
+
+-- the question why a table is damaged
+pub fault-told-once :
+    (words : List ℕ) (rule rule′ slot slot′ : ℕ)
+    → ToldFault (firstFault (tableOf words)) rule slot
+    → ToldFault (firstFault (tableOf words)) rule′ slot′
+    → (rule ≡ rule′) × (slot ≡ slot′)
+fault-told-once words rule rule′ slot slot′ h k = (h .0 ∙ sym (k .0), h .1 ∙ sym (k .1))

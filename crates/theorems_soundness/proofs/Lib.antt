@@ -75,3 +75,5 @@ pub mod Serving
 pub mod ClimbBudgets
 pub mod BudgetsSuffice
 pub mod Kept
+pub mod FaultLaws
+pub mod FirstFault

@@ -9,7 +9,9 @@ use lib.Dec.{T}
 use Rattle.table.specs.Table.{Table, at, Full}
 use Rattle.table.proofs.TableLaws.{at-out}
 use Rattle.table.specs.Nodes.{outer}
-use Rattle.rules.specs.Sound.{Rule, S1, S2, S3, S4, S5, S6, S7, S8, holds, allHold, sound, s1, s2, s3, s4, s5, s6, s7, s8}
+use Rattle.rules.specs.declared.fault.Rule.{Rule}
+use Rattle.rules.specs.declared.fault.Rule.the-variants.{S1, S2, S3, S4, S5, S6, S7, S8}
+use Rattle.rules.specs.Sound.{holds, allHold, sound, s1, s2, s3, s4, s5, s6, s7, s8}
 use Rattle.rules.specs.Slots.{up}
 use Rattle.rules.specs.Walk.{ends}
 use Rattle.theorems_soundness.specs.Facts.{Core, Rest}

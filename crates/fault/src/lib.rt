@@ -1,0 +1,70 @@
+// Why a table is damaged (ticket 5 of 02): the first rule of S1 to S8 that fails, and the lowest slot at which it fails. Each rule is
+// asked at one slot after the other, as it is written, for any words and without regard to time: a sound table is told before.
+pub mod s1_slots;
+pub mod s2_pointers;
+pub mod s3_singles;
+pub mod s4_tree_nodes;
+pub mod s5_child_lists;
+pub mod s6_rings;
+pub mod s7_ways_up;
+pub mod s8_touches;
+
+use rules::fault::Fault;
+use rules::fault::Rule;
+use slot::Node;
+use table::Table;
+ghost use mathlib.Core.Path.{_≡_};
+ghost use Rattle.table.specs.Words.{tableOf};
+ghost use Rattle.rules.specs.Sound.{holds};
+ghost use Rattle.rules.specs.Fault.{lowestFault, orElse, firstFault};
+
+fn rule_holds(t: &Table, rule: Rule, n: Node) -> bool
+    ensures { λ r. ⌜ r ≡ holds rule (tableOf (now (t .entry))) (n .0) ⌝ }
+{
+    match rule {
+        Rule::S1 => s1_slots::holds(t, n),
+        Rule::S2 => s2_pointers::holds(t, n),
+        Rule::S3 => s3_singles::holds(t, n),
+        Rule::S4 => s4_tree_nodes::holds(t, n),
+        Rule::S5 => s5_child_lists::holds(t, n),
+        Rule::S6 => s6_rings::holds(t, n),
+        Rule::S7 => s7_ways_up::holds(t, n),
+        Rule::S8 => s8_touches::holds(t, n),
+    }
+}
+
+fn lowest_fault(t: &Table, rule: Rule) -> Fault
+    ensures { λ r. ⌜ r ≡ lowestFault rule (tableOf (now (t .entry))) 256 0 ⌝ }
+{
+    let mut i: u16 = 0;
+    while i < 256 {
+        if !rule_holds(t, rule, Node(i)) {
+            return Fault::At(rule, Node(i));
+        }
+        i += 1;
+    }
+    Fault::Nowhere
+}
+
+// A fault of an earlier rule is kept.
+fn or_fault(found: Fault, t: &Table, rule: Rule) -> Fault
+    ensures { λ r. ⌜ r ≡ orElse found (lowestFault rule (tableOf (now (t .entry))) 256 0) ⌝ }
+{
+    match found {
+        Fault::Nowhere => lowest_fault(t, rule),
+        Fault::At(earlier, slot) => Fault::At(earlier, slot),
+    }
+}
+
+pub fn first_fault(t: &Table) -> Fault
+    ensures { λ r. ⌜ r ≡ firstFault (tableOf (now (t .entry))) ⌝ }
+{
+    let to_1 = lowest_fault(t, Rule::S1);
+    let to_2 = or_fault(to_1, t, Rule::S2);
+    let to_3 = or_fault(to_2, t, Rule::S3);
+    let to_4 = or_fault(to_3, t, Rule::S4);
+    let to_5 = or_fault(to_4, t, Rule::S5);
+    let to_6 = or_fault(to_5, t, Rule::S6);
+    let to_7 = or_fault(to_6, t, Rule::S7);
+    or_fault(to_7, t, Rule::S8)
+}
