@@ -92,6 +92,6 @@ int main(void) {
     printf("sound with a word overwritten: %u; a conflict is then refused by %u\n", boltclover_sound(table),
            boltclover_conflict(table, 4, 5, 4, 5, 14, 15, out, sizeof out, &written, &side));
     uint16_t slot, rule = boltclover_fault(table, &slot);
-    printf("for what is wrong: rule S%u fails at slot %u\n", rule, slot);
+    printf("what is wrong: rule S%u fails at slot %u\n", rule, slot);
     return 0;
 }

@@ -63,7 +63,7 @@ impl From<Refused> for Refusal {
     }
 }
 
-/// Why a table is damaged: the first of the rules S1 to S8 that fails, 1 to 8, and the lowest slot at which it fails.
+/// Why a table is damaged: the first of the rules S1 to S8 that is broken, 1 to 8, and the smallest slot that breaks it.
 #[derive(Clone, Copy, PartialEq, Eq, Debug)]
 pub struct Fault {
     pub rule: u16,

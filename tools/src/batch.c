@@ -110,7 +110,7 @@ static void stored_tape(const char *begin, const char *name) {
 }
 
 /* ---- the deepest tables (deep.h): checked, trees met by a new node, matched by a virtual conflict, listed, by single calls and in runs,
-   and asked for partners */
+   and asked for partners; and for a fault, which none has */
 
 static void meet(uint16_t a, uint16_t b, uint16_t touch_a, uint16_t touch_b) {
     Request r = {CONFLICT, a, b, touch_a, touch_b, 1000u + touch_a, 1000u + touch_b};

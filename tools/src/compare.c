@@ -1,4 +1,5 @@
-/* Compares the port with the original, request by request, and its refusals, and the rule and slot of a damaged table, with a second reading of the rules.
+/* Compares the port with the original, request by request; and its refusals, and the rule and slot of a damaged table, with a second
+   reading of the rules.
      compare ORIGINAL [SEED [REQUESTS]]
    ORIGINAL is the original's program (docs/DIFFERENCES.md). Requests are made up from SEED (1), until REQUESTS (250000) were
    accepted. Exit status: 0 nothing differs, 1 something differs, 2 a wrong call, or ORIGINAL does not run. */
@@ -241,7 +242,6 @@ static void try_faults(Shot aside, const uint16_t *words) {
 /* ---- nests: matched, and every defect's partner asked for; sound and bent, for the check alone, which other requests only start with */
 
 static void try_nest(Shot *shot, uint32_t depth) {
-    static View t;
     uint16_t words[WORDS], bent[WORDS], kept[WORDS];
     if (!build_nest(&shot->dice, words, depth)) difference("a nest is refused", shot_number, 0, NULL);
     hold_partners(wrong_in_nest(shot->dice, words, depth, &counts.partners));
@@ -249,7 +249,6 @@ static void try_nest(Shot *shot, uint32_t depth) {
         memcpy(bent, words, sizeof bent);
         if (i) bend_nest(shot, bent, depth);
         memcpy(kept, bent, sizeof kept);
-        read_view(&t, bent);
         int broken = hold_fault(bent);
         counts.nests++, counts.nests_broken[broken]++;
         if (boltclover_sound(bent) != !broken || memcmp(kept, bent, sizeof kept) || (!i && broken))

@@ -33,7 +33,7 @@ int inside(const View *t, uint32_t n, uint32_t x) {
 
 static int defect_inside(const View *t, uint32_t touch, uint32_t n) { return is_defect(t, touch) && inside(t, touch, n); }
 
-/* ---- soundness: each rule gives the lowest slot at which it fails, or NOWHERE */
+/* ---- soundness: each rule gives the smallest slot that breaks it, or NOWHERE */
 
 enum { NOWHERE = -1 };
 
@@ -172,7 +172,7 @@ int broken_rule(const View *t, int *slot) {
     return 0;
 }
 
-int is_sound(const View *t) {
+static int is_sound(const View *t) {
     int slot;
     return broken_rule(t, &slot) == 0;
 }

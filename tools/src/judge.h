@@ -5,8 +5,7 @@
 
 #include "view.h"
 
-int is_sound(const View *t);
-/* 0 and slot 0; or the first of S1 to S8 that the table breaks, and the lowest slot at which it does */
+/* 0 and slot 0; or the first of S1 to S8 that the table breaks, and the smallest slot that does */
 int broken_rule(const View *t, int *slot);
 int present_defects(const View *t);
 /* 0, or the first number that applies, in the rules' order for the request's kind; and its side, 0 where it names none */

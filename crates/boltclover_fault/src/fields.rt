@@ -5,7 +5,7 @@ use slot::Slot;
 use slot::number;
 
 // A field of the link that is not none.
-pub fn stored_in_link(link: Link) -> usize {
+fn stored_in_link(link: Link) -> usize {
     if link.touch.0 != number::NO_NODE {
         return words::TOUCH;
     }

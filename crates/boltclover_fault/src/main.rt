@@ -1,6 +1,6 @@
 // The program that says why a table is damaged (ticket 5 of 02). A table stands on standard input as the C interface holds it: 2,819
-// words of two bytes, the low one first. Printed is "sound"; or the rule that fails first and the lowest slot at which it fails, what
-// stands there, what the rule asks, and the slots that it is about, word by word.
+// words of two bytes, the low one first. Printed is "sound"; or the fault that `primal::fault` names, rule and slot, with what stands
+// there, then what the rule asks, and the slots that it is about, field by field.
 mod fields;
 mod printing;
 mod s1_slots;
@@ -18,9 +18,6 @@ use boltclover_shared::Ending;
 use rules::fault::Fault;
 use table::Table;
 use table::layout::WORDS;
-
-// The bytes of a table.
-const BYTES: usize = 2 * WORDS;
 
 fn load(t: &mut Table, bytes: &[u8]) {
     let words: &mut [u16] = t;
@@ -44,21 +41,21 @@ fn tell_of(bytes: &[u8]) -> Ending {
     tell(&table, bytes)
 }
 
-fn no_table(length: usize) -> Ending {
+fn no_table(length: usize, is_more: bool) -> Ending {
     let mut space = io::buffer();
     let line: &mut [u8] = &mut space;
-    let n = printing::write_no_table(line, length);
+    let n = printing::write_no_table(line, length, is_more);
     boltclover_shared::complain_first(line, n);
     Ending::Misused
 }
 
 // Of what was read the first n bytes are input.
 fn tell_read(read: &[u8], n: usize) -> Ending {
-    if n != BYTES {
-        return no_table(n);
+    if n != printing::TABLE_BYTES {
+        return no_table(n, n == read.len());
     }
     if read.len() < n {
-        return no_table(n);
+        return no_table(n, false);
     }
     tell_of(&read[0..n])
 }

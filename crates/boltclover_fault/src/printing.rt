@@ -7,14 +7,16 @@ use slot::Node;
 use slot::State;
 use table::Table;
 use table::counts;
+use table::layout::WORDS;
 use text_decimals::write_bytes;
-use text_decimals::write_decimal;
 
 // A slot's words, as they stand one after another in the table: marks are as in a record's form.
 const SLOT: [u8; 126] =
     *b", parent #n1, first child #n2, sibling #n3, first blossom child #n4, touch #n5, peer touch #n6, through #v7, peer through #v9\n";
 
 const SLOT_BYTES: usize = 2 * table::layout::SLOT_WORDS;
+
+pub const TABLE_BYTES: usize = 2 * WORDS;
 
 fn ending(is_written: bool, ending: Ending) -> Ending {
     if is_written {
@@ -27,14 +29,15 @@ pub fn sound() -> Ending {
     ending(boltclover_shared::write_out(b"sound\n"), Ending::Well)
 }
 
-pub fn write_no_table(out: &mut [u8], length: usize) -> usize {
-    let p = write_bytes(
-        out,
-        0,
-        b"no table: a table has 5638 bytes, 2819 words of two, and here are ",
-    );
-    let q = write_decimal(out, p, length as u64);
-    write_bytes(out, q, b"\n")
+// What was read has another length than a table, or more bytes than were looked at.
+pub fn write_no_table(out: &mut [u8], length: usize, is_more: bool) -> usize {
+    let p = text::write_named(out, 0, b"no table: a table has ", TABLE_BYTES as u64);
+    let q = text::write_named(out, p, b" bytes, ", WORDS as u64);
+    let r = text::write_named(out, q, b" words of two, and here are ", length as u64);
+    if is_more {
+        return write_bytes(out, r, b" or more\n");
+    }
+    write_bytes(out, r, b"\n")
 }
 
 fn write_state(out: &mut [u8], pos: usize, state: State, words: &[u8]) -> usize {
@@ -44,7 +47,7 @@ fn write_state(out: &mut [u8], pos: usize, state: State, words: &[u8]) -> usize 
         State::Stay => write_bytes(out, pos, b"Stay"),
         State::Grow => write_bytes(out, pos, b"Grow"),
         State::Shrink => write_bytes(out, pos, b"Shrink"),
-        State::Damaged => text::write_form(out, pos, b"mark #n0", 1, words),
+        State::Damaged => text::write_form(out, pos, b"mark #c0", 1, words),
     }
 }
 
@@ -57,14 +60,22 @@ fn write_slot(out: &mut [u8], pos: usize, t: &Table, bytes: &[u8], n: Node) -> u
     let p = text::write_named(out, pos, b"  slot ", n.0 as u64);
     let q = write_bytes(out, p, b": ");
     let s = write_state(out, q, table::field::state(t, n), &bytes[at..]);
-    text::write_form(out, s, &SLOT, 9, &bytes[at..])
+    text::write_form(out, s, &SLOT, 8, &bytes[at..])
+}
+
+// The other slot that a sentence speaks of.
+fn write_other(out: &mut [u8], pos: usize, t: &Table, bytes: &[u8], n: Node, other: Node) -> usize {
+    if other.0 == n.0 {
+        return pos;
+    }
+    write_slot(out, pos, t, bytes, other)
 }
 
 fn write_sizes(out: &mut [u8], pos: usize, t: &Table) -> usize {
     text::write_numbers(
         out,
         pos,
-        b"  begin #n0, count_defects #n1, count_blossoms #n2\n",
+        b"  begin #c0, count_defects #c1, count_blossoms #c2\n",
         counts::begin(t),
         counts::count_defects(t),
         counts::count_blossoms(t),
@@ -96,7 +107,7 @@ pub fn fault(t: &Table, bytes: &[u8], rule: Rule, n: Node) -> Ending {
     let d = words::write_wrong(out, c, wrong);
     let e = words::write_asked(out, d, number);
     let f = write_slot(out, e, t, bytes, n);
-    let g = write_slot(out, f, t, bytes, wrong.other);
+    let g = write_other(out, f, t, bytes, n, wrong.other);
     let h = write_sizes(out, g, t);
     ending(boltclover_shared::write_first(out, h), Ending::Badly)
 }

@@ -37,13 +37,16 @@ fn wrong_matched(n: Node, link: Link, peer: Node, other: Slot) -> Wrong {
     if other.first_child.0 != number::NO_NODE {
         return words::of_slot_and_field(words::MATCHED_IN_TREE, words::FIRST_CHILD, peer, 0);
     }
-    if other.sibling.0 == number::NO_NODE {
-        return words::of_slot(words::MATCHED_TO_VIRTUAL, peer, 0, 0);
+    if other.sibling.0 == n.0 {
+        return wrong_mirror(link, peer, back);
     }
-    if other.sibling.0 != n.0 {
+    if other.sibling.0 != number::NO_NODE {
         return words::of_slot(words::MATCHED_TO_OTHER, peer, other.sibling.0, 0);
     }
-    wrong_mirror(link, peer, back)
+    if back.peer_touch.0 == number::NO_NODE {
+        return words::of_slot(words::MATCHED_TO_VIRTUAL, peer, 0, 0);
+    }
+    words::of_slot(words::MATCHED_TO_NOBODY, peer, 0, 0)
 }
 
 fn wrong_peer(t: &Table, n: Node, link: Link, peer: Node) -> Wrong {

@@ -28,7 +28,7 @@ fn wrong_list(t: &Table, n: Node) -> Wrong {
         here = table::field::sibling(t, here);
         left -= 1;
     }
-    words::of_numbers(words::LIST_ENDLESS, 0, 0)
+    words::of_slot(words::LIST_ENDLESS, here, 0, 0)
 }
 
 pub fn wrong(t: &Table, n: Node) -> Wrong {

@@ -44,10 +44,11 @@ fn wrong_ring(t: &Table, b: Node) -> Wrong {
     if count == number::NO_NODE {
         return wrong_way_round(t, b, first);
     }
-    if !s6_rings::is_odd_ring(count) {
+    let missing = first_unmarked(t, b, &seen, true);
+    if missing.0 == number::NO_NODE {
         return words::of_numbers(words::RING_OF, count, 0);
     }
-    words::of_slot(words::NOT_ON_RING, first_unmarked(t, b, &seen, true), 0, 0)
+    words::of_slot(words::NOT_ON_RING, missing, 0, 0)
 }
 
 fn wrong_inner(t: &Table, n: Node) -> Wrong {

@@ -5,10 +5,11 @@ use slot::Node;
 use slot::number;
 use table::Table;
 
-// Where the way up from a node stands after 256 steps: on the circle, if it comes to no root.
+// Where the way up from a node stands after 255 steps: on the circle, if it comes to no root; and at another node than the first, since
+// on a circle + and − nodes stand by turns.
 fn far_up(t: &Table, n: Node) -> Node {
     let mut here = n;
-    let mut left: u16 = 256;
+    let mut left: u16 = 255;
     while 0 < left {
         here = table::field::parent(t, here);
         left -= 1;

@@ -115,82 +115,84 @@ pub const MATCHED_TO_OTHER: usize = 20;
 
 pub const MATCHED_TO_VIRTUAL: usize = 21;
 
-pub const TOUCH_TURNED: usize = 22;
+pub const MATCHED_TO_NOBODY: usize = 22;
 
-pub const PEER_TOUCH_TURNED: usize = 23;
+pub const TOUCH_TURNED: usize = 23;
 
-pub const THROUGH_TURNED: usize = 24;
+pub const PEER_TOUCH_TURNED: usize = 24;
 
-pub const PEER_THROUGH_TURNED: usize = 25;
+pub const THROUGH_TURNED: usize = 25;
 
-pub const STAYS_IN_TREE: usize = 26;
+pub const PEER_THROUGH_TURNED: usize = 26;
 
-pub const ROOT_STORES: usize = 27;
+pub const STAYS_IN_TREE: usize = 27;
 
-pub const PLUS_WITHOUT: usize = 28;
+pub const ROOT_STORES: usize = 28;
 
-pub const PLUS_SIBLING: usize = 29;
+pub const PLUS_WITHOUT: usize = 29;
 
-pub const PLUS_PARENT: usize = 30;
+pub const PLUS_SIBLING: usize = 30;
 
-pub const MINUS_WITHOUT: usize = 31;
+pub const PLUS_PARENT: usize = 31;
 
-pub const MINUS_PARENT: usize = 32;
+pub const MINUS_WITHOUT: usize = 32;
 
-pub const MINUS_CHILDREN: usize = 33;
+pub const MINUS_PARENT: usize = 33;
 
-pub const LISTS_OTHER: usize = 34;
+pub const MINUS_CHILDREN: usize = 34;
 
-pub const LISTS_INNER: usize = 35;
+pub const LISTS_OTHER: usize = 35;
 
-pub const LIST_ENDLESS: usize = 36;
+pub const LISTS_INNER: usize = 36;
 
-pub const NOT_LISTED: usize = 37;
+pub const LIST_ENDLESS: usize = 37;
 
-pub const NO_RING: usize = 38;
+pub const NOT_LISTED: usize = 38;
 
-pub const RINGS_OTHER: usize = 39;
+pub const NO_RING: usize = 39;
 
-pub const RINGS_OUTER: usize = 40;
+pub const RINGS_OTHER: usize = 40;
 
-pub const RING_ENDS: usize = 41;
+pub const RINGS_OUTER: usize = 41;
 
-pub const RING_ENDLESS: usize = 42;
+pub const RING_ENDS: usize = 42;
 
-pub const NOT_ON_RING: usize = 43;
+pub const RING_ENDLESS: usize = 43;
 
-pub const RING_OF: usize = 44;
+pub const NOT_ON_RING: usize = 44;
 
-pub const INNER_WITHOUT: usize = 45;
+pub const RING_OF: usize = 45;
 
-pub const INNER_CHILD: usize = 46;
+pub const INNER_WITHOUT: usize = 46;
 
-pub const WAY_ENDLESS: usize = 47;
+pub const INNER_CHILD: usize = 47;
 
-pub const INSIDE_DEFECT: usize = 48;
+pub const WAY_ENDLESS: usize = 48;
 
-pub const INSIDE_SMALLER: usize = 49;
+pub const INSIDE_DEFECT: usize = 49;
 
-pub const TOUCHES_BLOSSOM: usize = 50;
+pub const INSIDE_SMALLER: usize = 50;
 
-pub const TOUCH_OUTSIDE: usize = 51;
+pub const TOUCHES_BLOSSOM: usize = 51;
 
-pub const PEER_TOUCH_OUTSIDE: usize = 52;
+pub const TOUCH_OUTSIDE: usize = 52;
 
-const SENTENCES: [u8; 2414] = *b"|begin is #n0, and is to be 1 to 256
-|count_defects is #n0, above begin, #n1
-|begin, #n0, and count_blossoms, #n1, come to more than 256
+pub const PEER_TOUCH_OUTSIDE: usize = 53;
+
+const SENTENCES: [u8; 2547] = *b"|begin is #c0, and is to be 1 to 256
+|count_defects is #c0, above begin, #c1
+|begin, #c0, and count_blossoms, #c1, come to more than 256
 |its mark is none of 0 to 4
-|present, and count_defects is #n0: defect slots are empty from #n0 on
-|present, and count_blossoms is #n0: blossom slots are empty from #n1 on
+|present, and count_defects is #c0: defect slots are to be empty from #c0 on
+|present, and count_blossoms is #c0: blossom slots are to be empty from #c1 on
 |empty, and stores a @
 |a defect, and stores a first blossom child, #n0
 |its @ is #n0, past the last slot, 255
 |its @ is #n0, an empty slot
-|free, and stores a @
+|Grow, with neither parent nor child, and stores a @
 |Shrink, with neither parent nor child
-|matched, and its @ is none
-|matched without a sibling, so to a virtual vertex, and its peer touch is #n0
+|Stay, with neither parent nor child, and its @ is none
+|matched to a virtual vertex, having no sibling, and its peer touch is #n0
 |matched to itself
 |matched to #n0, which is inside a blossom
 |matched to #n0, which is Grow
@@ -198,6 +200,7 @@ const SENTENCES: [u8; 2414] = *b"|begin is #n0, and is to be 1 to 256
 |matched to #n0, which has a @
 |matched to #n0, which is matched to #n1
 |matched to #n0, which is matched to a virtual vertex
+|matched to #n0, which has no sibling
 |matched to #n0, and its touch is #n1, but the peer touch there #n2
 |matched to #n0, and its peer touch is #n1, but the touch there #n2
 |matched to #n0, and its through is not the peer through there
@@ -212,7 +215,7 @@ const SENTENCES: [u8; 2414] = *b"|begin is #n0, and is to be 1 to 256
 |a - node (Shrink), and its first child, #n0, has a sibling, #n1
 |its child list comes to #n0, whose parent is #n1
 |its child list comes to #n0, which is inside a blossom
-|its child list does not end
+|its child list does not end: it goes round through #n0
 |node #n0 names it as parent, and is not on its child list
 |a blossom without a first blossom child
 |its ring comes to #n0, whose parent is #n1
@@ -220,13 +223,13 @@ const SENTENCES: [u8; 2414] = *b"|begin is #n0, and is to be 1 to 256
 |its ring comes to #n0, which has no sibling
 |its ring does not come back to its first node, #n0
 |node #n0 is inside it, and is not on its ring
-|its ring has #n0 nodes, and is to have an odd number, at least 3
+|its ring has #c0 nodes, and is to have an odd number, at least 3
 |inside a blossom, and its @ is none
 |inside a blossom, and has a first child, #n0
 |its way up comes to no root: the parents go round through #n0
 |inside #n0, which is a defect
 |inside #n0, which is no larger number
-|its @ is #n0, no defect: those are below #n1
+|its @ is #n0, no defect: those are below #c1
 |its touch, #n0, is not inside it
 |its peer touch, #n1, is not inside @, #n0
 ";

@@ -13,9 +13,9 @@ pub enum Ending {
     // 0.
     Well,
     // 1: the tape or the text is bad or was cut, or output could not be written, which was said on standard error; or a defect that was
-    // asked about is none, which was printed.
+    // asked about is none, or a table is damaged, which was printed.
     Badly,
-    // 2: a bad argument.
+    // 2: a bad argument, or a file that is no table, which was said on standard error.
     Misused,
 }
 

@@ -1,5 +1,5 @@
-// Why a table is damaged (ticket 5 of 02): the first rule of S1 to S8 that fails, and the lowest slot at which it fails. Each rule is
-// asked at one slot after the other, as it is written, for any words and without regard to time: a sound table is told before.
+// Why a table is damaged (ticket 5 of 02): the first broken rule of S1 to S8, and the smallest slot that breaks it. Each rule is asked of
+// one slot after the other, as it is written, for any words and without regard to time: a sound table is told before.
 pub mod s1_slots;
 pub mod s2_pointers;
 pub mod s3_singles;

@@ -13,7 +13,7 @@ ghost use Rattle.slot.specs.Slot.{slotOf};
 ghost use Rattle.table.specs.Words.{tableOf};
 ghost use Rattle.rules.specs.Sound.{isSingle, isFree, isTouched, isPaired, isVirtual, s3};
 
-pub fn is_single(t: &Table, n: Node) -> bool
+fn is_single(t: &Table, n: Node) -> bool
     ensures { λ r. ⌜ r ≡ isSingle (tableOf (now (t .entry))) (n .0) ⌝ }
 {
     let outer = table::field::is_outer(t, n);
@@ -55,7 +55,7 @@ fn is_virtual(s: Slot) -> bool
     )
 }
 
-pub fn is_paired(t: &Table, n: Node) -> bool
+fn is_paired(t: &Table, n: Node) -> bool
     ensures { λ r. ⌜ r ≡ isPaired (tableOf (now (t .entry))) (n .0) ⌝ }
 {
     let peer = table::field::sibling(t, n);

@@ -4,6 +4,7 @@ use slot::number;
 use sound_slots::truth::both;
 use sound_slots::truth::implies;
 use sound_slots::value;
+use sound_walks::numbers::is_odd_ring;
 use table::Table;
 use table::marks;
 ghost use mathlib.Core.Path.{_≡_};
@@ -11,7 +12,6 @@ ghost use Rattle.table.specs.Words.{tableOf};
 ghost use Rattle.rules.specs.Sound.{nextInRing, isInnerChild, ringHolds, s6};
 ghost use Rattle.sound_walks.specs.Pass.{allFrom};
 ghost use Rattle.sound_walks.specs.Marks.{walkedOf, marking};
-ghost use Rattle.sound_walks.specs.Numbers.{isOddRing};
 ghost use Rattle.fault.specs.Walked.{isRingNode, ringListed, ringFits, innerFits};
 
 // The node after n on the ring that begins with another; none where that is the first again.
@@ -87,13 +87,6 @@ fn all_on_ring(t: &Table, seen: &[u8], b: Node) -> bool
     true
 }
 
-// Odd, at least 3.
-pub fn is_odd_ring(count: u16) -> bool
-    ensures { λ r. ⌜ r ≡ isOddRing count ⌝ }
-{
-    both(count % 2 == 1, 3 <= count)
-}
-
 fn ring_holds(t: &Table, b: Node) -> bool
     ensures { λ r. ⌜ r ≡ ringHolds (tableOf (now (t .entry))) (b .0) ⌝ }
 {
@@ -103,7 +96,7 @@ fn ring_holds(t: &Table, b: Node) -> bool
     if count == number::NO_NODE {
         return false;
     }
-    if !is_odd_ring(count) {
+    if !is_odd_ring(count as u32) {
         return false;
     }
     all_on_ring(t, &seen, b)

@@ -2,7 +2,7 @@
 use rules::fault::Fault;
 ghost use Rattle.outcome.specs.FaultInNumbers.{ToldFault};
 
-// Gives 0 and slot 0 for a sound table, or the number of the rule and the slot at which it fails.
+// Gives 0 and slot 0 for a sound table, or the number of the broken rule and the slot.
 pub fn tell(fault: Fault, slot: &mut u16) -> u16
     ensures { λ r. ⌜ ToldFault fault r (now (slot .exit)) ⌝ }
 {

@@ -54,7 +54,7 @@ pub fn is_sound(t: &Table) -> bool
     sound::is_sound(t)
 }
 
-// Why a table is damaged: the first rule of S1 to S8 that fails, and the lowest slot at which it fails; nowhere exactly if sound.
+// Why a table is damaged: the first broken rule of S1 to S8, and the smallest slot that breaks it; nowhere exactly if sound.
 pub fn fault(t: &Table) -> Fault
     ensures { λ r. ⌜ r ≡ firstFault (tableOf (now (t .entry))) ⌝ }
 {

@@ -2,8 +2,6 @@
 -- S5 and S6 are judged. A table for each sentence of S1 to S8 stands in `theorems_examples`.
 use mathlib.Core.Path.{_≡_, refl}
 use mathlib.Core.List.{List, [], _∷_}
-use Prim.Native.Nat.{ℕ}
-use Rattle.table.specs.Table.{Table}
 use Rattle.record.specs.declared.request.Request.{Request}
 use Rattle.rules.specs.declared.fault.Rule.the-variants.{S1, S2, S5, S6}
 use Rattle.rules.specs.Act.{alter}

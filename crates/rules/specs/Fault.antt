@@ -1,5 +1,4 @@
--- Why a table is damaged (ticket 5 of 02): the first rule of S1 to S8 that fails, and the lowest slot at which it fails. At which slots
--- a rule fails is said in Sound, rule by rule.
+-- Why a table is damaged (ticket 5 of 02): one of the rules S1 to S8 and a slot. Which slots break a rule is said in Sound, rule by rule.
 use Prim.Native.Nat.{ℕ, zero, suc}
 use mathlib.Core.List.{List, [], _∷_}
 use Rattle.lists.specs.Choice.{pick}

@@ -30,7 +30,7 @@ fn is_next(t: &Table, lo: &[u16], b: Node, n: Node) -> bool
 }
 
 // Odd, at least 3.
-fn is_odd_ring(count: u32) -> bool
+pub fn is_odd_ring(count: u32) -> bool
     ensures { λ r. ⌜ r ≡ isOddRing count ⌝ }
 {
     both(count % 2 == 1, 3 <= count)

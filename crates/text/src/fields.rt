@@ -28,7 +28,7 @@ pub fn put(record: &mut [u8], at: usize, n: u32, size: u8) {
     put(record, at + 1, n / 256, size - 1);
 }
 
-// ---- what marks name: `n` or `v`, and the digit of a place
+// ---- what marks name: `n` a node, `v` a vertex, `c` a count or a mark of two bytes, which is never none; and the digit of a place
 
 // The bytes before a place.
 pub fn place(digit: u8) -> usize
@@ -40,26 +40,26 @@ pub fn place(digit: u8) -> usize
     2 * (digit - b'0') as usize
 }
 
-// The bytes of a node, or of a vertex.
 pub fn size(mark: u8) -> u8 {
-    if mark == b'n' {
-        return 2;
+    if mark == b'v' {
+        return 4;
     }
-    4
+    2
 }
 
-// The largest number, which stands for none.
+// The largest number, which stands for none; of a count, one that it cannot be.
 pub fn none(mark: u8) -> u32 {
-    if mark == b'n' {
-        return slot::number::NO_NODE as u32;
+    match mark {
+        b'n' => slot::number::NO_NODE as u32,
+        b'c' => 65536,
+        _ => slot::number::NO_VERTEX,
     }
-    slot::number::NO_VERTEX
 }
 
 pub fn field(record: &[u8], mark: u8, digit: u8) -> u32 {
     let at = place(digit);
     let low = narrow_at(record, at) as u32;
-    if mark == b'n' {
+    if mark != b'v' {
         return low;
     }
     low + (narrow_at(record, at + 2) as u32) * 65536

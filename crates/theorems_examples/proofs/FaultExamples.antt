@@ -1,22 +1,16 @@
--- S1 to S4, sentence by sentence: tables damaged in one place, with the rule that fails first and the lowest slot at which it fails.
-use mathlib.Core.Path.{_≡_, refl}
-use Prim.Native.Nat.{ℕ}
+-- S1 to S4, sentence by sentence: tables that break one of its clauses and no earlier rule, and then tables with several faults.
+use mathlib.Core.Path.{refl}
 use Rattle.slot.specs.declared.state.State.the-variants as S
 use Rattle.slot.specs.Number.{none, noVertex}
 use Rattle.slot.specs.Slot.{newNode}
-use Rattle.table.specs.Table.{Table, put}
+use Rattle.table.specs.Table.{put}
 use Rattle.table.specs.Making.{fresh}
 use Rattle.table.specs.Counts.{withDefects, withBlossoms}
-use Rattle.rules.specs.declared.fault.Rule.{Rule}
 use Rattle.rules.specs.declared.fault.Rule.the-variants.{S1, S2, S3, S4}
 use Rattle.rules.specs.Act.{alter}
 use Rattle.rules.specs.Slots.{withState, withParent, withFirstChild, withSibling}
-use Rattle.rules.specs.Fault.{faultAt, firstFault}
 use Rattle.rules.proofs.Script.{all-rules}
-use Rattle.theorems_examples.proofs.FaultTables.{withRing, withTouch, withThrough, withPeerTouch, withPeerThrough, pair, tree}
-
-abbrev Named : Table → Rule → ℕ → Type 0
-Named t r n = firstFault t ≡ faultAt r n
+use Rattle.theorems_examples.proofs.FaultTables.{Named, withRing, withTouch, withThrough, withPeerTouch, withPeerThrough, pair, tree}
 
 -- ---- S1
 
@@ -48,7 +42,7 @@ ring-of-a-defect : Named (alter 1 (withRing 0) pair) S1 1
 unfolding all-rules pair
 ring-of-a-defect = refl
 
--- a damaged mark is S1's, at its slot
+-- no rule of 01 allows another mark than the five: such a slot breaks S1
 damaged-mark : Named (alter 1 (withState S.Damaged) pair) S1 1 × Named (alter 77 (withState S.Damaged) pair) S1 77
 unfolding all-rules pair
 damaged-mark = (refl, refl)
@@ -83,20 +77,24 @@ matched-lacks :
 unfolding all-rules pair
 matched-lacks = (refl, refl, refl, refl)
 
--- "either a sibling, another matched node, pointing back": itself, a node that is matched to another, a free one
+-- "either a sibling, another matched node, pointing back": itself, a node that is matched to another, a free one, one with a child, one
+-- that does not stay
 sibling-elsewhere :
     Named (alter 0 (withSibling 0) pair) S3 0
     × Named (alter 2 (λ s. withSibling 0 (withPeerTouch 0 s)) pair) S3 2
     × Named (put pair 1 newNode) S3 0
+    × Named (alter 1 (withFirstChild 2) pair) S3 0
+    × Named (alter 1 (withState S.Grow) pair) S3 0
 unfolding all-rules pair
-sibling-elsewhere = (refl, refl, refl)
+sibling-elsewhere = (refl, refl, refl, refl, refl)
 
--- "with the mirrored link and a peer touch": it fails at both nodes, and the lower is named, whichever was damaged
+-- "with the mirrored link and a peer touch": whichever of the two was damaged, 0 is named, since neither link is the other's mirror; in the
+-- last each is, and neither has what it needs of the other's touch
 not-mirrored :
     Named (alter 0 (withThrough 55) pair) S3 0
     × Named (alter 1 (withThrough 55) pair) S3 0
     × Named (alter 1 (withTouch 0) pair) S3 0
-    × Named (alter 1 (withPeerTouch none) pair) S3 0
+    × Named (alter 0 (withPeerTouch none) (alter 1 (withTouch none) pair)) S3 0
 unfolding all-rules pair
 not-mirrored = (refl, refl, refl, refl)
 
@@ -112,7 +110,8 @@ roots : Named (alter 4 (withSibling 1) tree) S4 4 × Named (alter 4 (withThrough
 unfolding all-rules tree
 roots = (refl, refl, refl)
 
--- "a − node (Shrink, full link, Grow parent, exactly one child)": its one child by the child list, its parent by its state
+-- "a − node (Shrink, full link, Grow parent, exactly one child)": a second child is one that the first has for a sibling, and any Grow
+-- node will do for the parent
 minus-nodes :
     Named (alter 0 (withState S.Grow) tree) S4 0
     × Named (alter 2 (withPeerTouch none) tree) S4 2

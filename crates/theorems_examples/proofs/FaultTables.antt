@@ -1,4 +1,4 @@
--- Sound tables, and ways to damage one in a single place.
+-- What the examples of faults share: sound tables, ways to replace one field, and the words in which a fault is stated.
 use mathlib.Core.Path.{_≡_, refl}
 use mathlib.Core.Bool.{true}
 use mathlib.Core.List.{List, [], _∷_}
@@ -6,12 +6,23 @@ use Prim.Native.Nat.{ℕ}
 use Rattle.slot.specs.Slot.{Link, Slot}
 use Rattle.table.specs.Table.{Table}
 use Rattle.table.specs.Making.{fresh}
+use Rattle.table.specs.Counts.{withDefects}
 use Rattle.record.specs.declared.request.Request.{Request}
+use Rattle.rules.specs.Act.{alter}
+use Rattle.rules.specs.Slots.{withSibling}
 use Rattle.rules.specs.Script.{meet, join, border, after, acceptedInTurn}
-use Rattle.rules.specs.Fault.{noFault, firstFault}
+use Rattle.rules.specs.declared.fault.Rule.{Rule}
+use Rattle.rules.specs.Fault.{noFault, faultAt, firstFault}
 use Rattle.rules.proofs.Script.{all-rules}
 use Rattle.outcome.specs.Handled.{laterVerdict}
+use Rattle.outcome.specs.FaultInNumbers.{ToldFault}
 use Rattle.theorems_examples.proofs.InTurn.{acceptedLater, played}
+
+-- ---- a fault
+
+-- what is named for a table
+abbrev pub Named : Table → Rule → ℕ → Type 0
+Named t r n = firstFault t ≡ faultAt r n
 
 -- ---- one field replaced
 
@@ -63,7 +74,12 @@ unfoldable pub minus : Table
 unfolding to-minus
 minus = after to-minus (fresh 128)
 
--- rule 0, slot 0
+-- no fault
 all-sound : (firstFault (fresh 1) ≡ noFault) × (firstFault (fresh 256) ≡ noFault) × (firstFault pair ≡ noFault) × (firstFault tree ≡ noFault) × (firstFault minus ≡ noFault)
 unfolding all-rules pair tree minus
 all-sound = (refl, refl, refl, refl, refl)
+
+-- .. which is told as rule 0 and slot 0, and another as the rule's number and the slot
+told : ToldFault (firstFault pair) 0 0 × ToldFault (firstFault (withDefects (fresh 128) 129)) 1 0 × ToldFault (firstFault (alter 2 (withSibling 7) pair)) 2 2
+unfolding all-rules pair
+told = ((refl, refl), (refl, refl), (refl, refl))

@@ -1,23 +1,19 @@
--- S5 to S8, sentence by sentence: tables damaged in one place, with the rule that fails first and the lowest slot at which it fails.
-use mathlib.Core.Path.{_≡_, refl}
+-- S5 to S8, sentence by sentence: tables that break one of its clauses and no earlier rule.
+use mathlib.Core.Path.{refl}
 use Prim.Native.Nat.{ℕ}
 use Rattle.slot.specs.declared.state.State.the-variants as S
 use Rattle.slot.specs.Number.{none, noVertex}
 use Rattle.slot.specs.Slot.{newNode}
 use Rattle.table.specs.Table.{Table, at, put}
 use Rattle.table.specs.Making.{fresh}
-use Rattle.rules.specs.declared.fault.Rule.{Rule}
+use Rattle.table.specs.Counts.{withDefects}
 use Rattle.rules.specs.declared.fault.Rule.the-variants.{S5, S6, S7, S8}
 use Rattle.rules.specs.Act.{alter}
 use Rattle.rules.specs.Slots.{withParent, withFirstChild, withSibling, shaped}
-use Rattle.rules.specs.Fault.{faultAt, firstFault}
 use Rattle.rules.specs.Script.{after}
 use Rattle.rules.specs.Scenarios.{nested}
 use Rattle.rules.proofs.Script.{all-rules}
-use Rattle.theorems_examples.proofs.FaultTables.{withRing, withTouch, withThrough, withPeerTouch, withPeerThrough, pair, tree, minus}
-
-abbrev Named : Table → Rule → ℕ → Type 0
-Named t r n = firstFault t ≡ faultAt r n
+use Rattle.theorems_examples.proofs.FaultTables.{Named, withRing, withTouch, withThrough, withPeerTouch, withPeerThrough, pair, tree, minus}
 
 -- ---- S5, at the node whose child list it is
 
@@ -26,9 +22,9 @@ list-goes-round : Named (alter 0 (withSibling 2) tree) S5 4
 unfolding all-rules tree
 list-goes-round = refl
 
--- "are exactly the outer nodes naming it as parent": a child that is not on the list, and a node on it that names another, or is inside
--- a blossom
-list-not-exact : Named (alter 4 (withFirstChild 0) tree) S5 4 × Named (alter 0 (withParent 3) tree) S5 3 × Named (alter 4 (withFirstChild 0) minus) S5 4
+-- "are exactly the outer nodes naming it as parent": 2 is left out of the list of 4; 1, on the list of 0, names 2, and S4 holds of 2, whose
+-- first child has no sibling; the list of 4 comes to 0, which is inside a blossom
+list-not-exact : Named (alter 4 (withFirstChild 0) tree) S5 4 × Named (alter 1 (withParent 2) tree) S5 0 × Named (alter 4 (withFirstChild 0) minus) S5 4
 unfolding all-rules tree minus
 list-not-exact = (refl, refl, refl)
 
@@ -40,23 +36,31 @@ ring-not-closed : Named (alter 128 (withRing none) minus) S6 128 × Named (alter
 unfolding all-rules minus
 ring-not-closed = (refl, refl, refl)
 
--- "is exactly the inner nodes naming it as parent, once each": a node left out, and an outer one
-ring-not-exact : Named (alter 0 (withSibling 2) minus) S6 128 × Named (alter 128 (withRing 4) minus) S6 128
-unfolding all-rules minus
-ring-not-exact = (refl, refl)
+-- "is exactly the inner nodes naming it as parent, once each": 1 skipped, an outer node first, 0 naming 4, and a fourth node, 5, beside the
+-- ring of three
+beside : Table
+unfolding minus
+beside = put (withDefects minus 6) 5 (at minus 1)
 
--- "odd, at least 3": 0 alone, and four nodes
+ring-not-exact :
+    Named (alter 0 (withSibling 2) minus) S6 128
+    × Named (alter 128 (withRing 4) minus) S6 128
+    × Named (alter 0 (withParent 4) minus) S6 128
+    × Named beside S6 128
+unfolding all-rules minus beside
+ring-not-exact = (refl, refl, refl, refl)
+
+-- "odd, at least 3": 0 alone, and four nodes, of which 5 follows 1
 ring-of-one : Table
+unfolding minus
 ring-of-one = put (put (alter 0 (withSibling 0) (alter 128 (withRing 0) minus)) 1 newNode) 2 newNode
 
 ring-of-four : Table
-ring-of-four = alter 1 (withSibling 5) (put (after-five minus) 5 (at minus 1))
-  where
-    after-five : Table → Table
-    after-five t = record { slots = t .slots; begin = t .begin; defects = 6; blossoms = t .blossoms }
+unfolding beside
+ring-of-four = alter 1 (withSibling 5) beside
 
 ring-size : Named ring-of-one S6 128 × Named ring-of-four S6 128
-unfolding all-rules minus ring-of-one ring-of-four
+unfolding all-rules minus beside ring-of-one ring-of-four
 ring-size = (refl, refl)
 
 -- "Inner nodes have full links and no child", at the inner node and not at its blossom
@@ -73,9 +77,9 @@ inner-nodes = (refl, refl, refl, refl, refl)
 
 -- "Parents of tree nodes reach a root within 256 steps": a + node and a − node, each the parent and the only child of the other
 circle : Table
-circle = alter 0 (λ s. shaped S.Grow 1 1 none (s .link) s) (alter 1 (λ s. shaped S.Shrink 0 0 none (s .link) s) (put pair 2 newNode))
+circle = alter 0 (λ s. shaped S.Grow 1 1 none (s .link) s) (alter 1 (λ s. shaped S.Shrink 0 0 none (s .link) s) pair)
 
--- it fails at every node whose way does not end: here 4 and 2 are one another's parent, and 0, below 4, is not on the circle
+-- .. and 4 and 2, each the other's parent, with 0 below 4: it is 0 that is named, which is not on the circle but leads into it
 hanging : Table
 unfolding tree
 hanging = put (alter 2 (withFirstChild 4) (alter 4 (λ s. shaped S.Grow 2 (s .firstChild) none (at tree 3 .link) s) tree)) 3 newNode
@@ -111,10 +115,11 @@ unfolding all-rules minus
 touches = (refl, refl)
 
 -- "Its peer touch is a defect inside the matched peer, the tree parent or the ring's next node": of the pair 0 and 1 the touch of 1 is
--- damaged and with it the peer touch of 0, where it is named; then a tree node's, and a ring node's
+-- damaged and with it the peer touch of 0, where it is named; then a tree node's, a ring node's, and one that is a blossom
 peer-touches :
     Named (alter 0 (withPeerTouch 2) (alter 1 (withTouch 2) pair)) S8 0
     × Named (alter 128 (withPeerTouch 3) minus) S8 128
     × Named (alter 2 (withPeerTouch 1) minus) S8 2
+    × Named (alter 3 (withPeerTouch 128) minus) S8 3
 unfolding all-rules pair minus
-peer-touches = (refl, refl, refl)
+peer-touches = (refl, refl, refl, refl)

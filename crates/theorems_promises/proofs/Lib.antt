@@ -12,6 +12,8 @@ pub mod Determining
 pub mod Unique
 pub mod NumbersAsAnswers
 pub mod UniqueForC
+pub mod FaultNumbers
+pub mod FaultForC
 pub mod RunCounts
 pub mod TapeEnd
 pub mod UnreadRest

@@ -58,10 +58,10 @@ numbered-back S6 = refl
 numbered-back S7 = refl
 numbered-back S8 = refl
 
-one-number : (q r : Rule) → ruleNumber q ≡ ruleNumber r → q ≡ r
+pub one-number : (q r : Rule) → ruleNumber q ≡ ruleNumber r → q ≡ r
 one-number q r e = sym (numbered-back q) ∙ ap numbered e ∙ numbered-back r
 
-some-number : (r : Rule) → 0 < ruleNumber r
+pub some-number : (r : Rule) → 0 < ruleNumber r
 some-number S1 = omega arith
 some-number S2 = omega arith
 some-number S3 = omega arith

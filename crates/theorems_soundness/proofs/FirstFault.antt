@@ -15,6 +15,6 @@ module _ (t : Table) where
   pub sound-exactly : (firstFault t ≡ noFault) ↔ T (sound t)
   sound-exactly = (none→sound t, sound→none t)
 
-  -- it names a rule and a slot exactly if the rule fails there, at no lower slot, and every earlier rule holds everywhere
+  -- a rule and a slot are named exactly where `FailsFirst` says that they come first
   pub named-exactly : (r : Rule) (n : ℕ) → (firstFault t ≡ faultAt r n) ↔ FailsFirst t r n
   named-exactly r n = (named→fails t r n, fails→named t r n)

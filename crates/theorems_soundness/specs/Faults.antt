@@ -1,4 +1,4 @@
--- What it means that a rule is the first to fail, and a slot the lowest at which it fails (ticket 5 of 02).
+-- A broken rule and a slot that come first (ticket 5 of 02).
 use Prim.Native.Nat.{ℕ, _<_}
 use lib.Dec.{T}
 use Rattle.table.specs.Table.{Table}
@@ -9,7 +9,7 @@ use Rattle.rules.specs.Fault.{ruleNumber}
 pub record FailsFirst (t : Table) (r : Rule) (n : ℕ) : Type 0 where
   pub slot : n < 256
   pub fails : ¬ T (holds r t n)
-  -- at no lower slot
+  -- smaller slots do not break it
   pub below : (m : ℕ) → m < n → T (holds r t m)
-  -- every rule before it holds at every slot
+  -- and no slot breaks a rule before it
   pub earlier : (q : Rule) → ruleNumber q < ruleNumber r → (m : ℕ) → m < 256 → T (holds q t m)

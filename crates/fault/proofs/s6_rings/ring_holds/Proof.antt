@@ -13,6 +13,7 @@ ring-holds-spec =
     (λ c. search needs)
     (λ c κs. search needs)
     (λ c. ring-broken _ _ _ (c .before .before .before .before .get-first-blossom-child .ensures) _ _ (c .before .before .walk-ring .ensures) (c .if1 .taken))
+    (λ c. search needs)
     (λ c κs. search needs)
     (λ c. ring-even _ _ _ (c .before .before .before .before .before .before .get-first-blossom-child .ensures) _ _ (c .before .before .before .before .walk-ring .ensures) (c .before .before .if1 .left) (sym (c .before .is-odd-ring .ensures) ∙ not-true _ (c .if2 .taken)))
     (λ c. search needs)
