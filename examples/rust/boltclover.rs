@@ -63,10 +63,23 @@ impl From<Refused> for Refusal {
     }
 }
 
-/// Why a table is damaged: the first of the rules S1 to S8 that is broken, 1 to 8, and the smallest slot that breaks it.
+/// The rules that a sound table meets, as docs/RULES-IN-WORDS.md tells them.
+#[derive(Clone, Copy, PartialEq, Eq, Debug)]
+pub enum Rule {
+    S1 = 1,
+    S2 = 2,
+    S3 = 3,
+    S4 = 4,
+    S5 = 5,
+    S6 = 6,
+    S7 = 7,
+    S8 = 8,
+}
+
+/// Why a table is damaged: the first rule that is broken, and the smallest slot that breaks it.
 #[derive(Clone, Copy, PartialEq, Eq, Debug)]
 pub struct Fault {
-    pub rule: u16,
+    pub rule: Rule,
     pub slot: Node,
 }
 
@@ -199,6 +212,21 @@ fn refusal(number: u16) -> Refusal {
     }
 }
 
+fn rule(number: u16) -> Option<Rule> {
+    match number {
+        0 => None,
+        1 => Some(Rule::S1),
+        2 => Some(Rule::S2),
+        3 => Some(Rule::S3),
+        4 => Some(Rule::S4),
+        5 => Some(Rule::S5),
+        6 => Some(Rule::S6),
+        7 => Some(Rule::S7),
+        8 => Some(Rule::S8),
+        _ => unreachable!("there are eight rules"),
+    }
+}
+
 fn told<T>(number: u16, done: T) -> Result<T, Refusal> {
     if number == 0 {
         Ok(done)
@@ -235,12 +263,8 @@ impl Table {
     /// Why the table is damaged; `None` exactly if it is sound.
     pub fn fault(&self) -> Option<Fault> {
         let mut slot = 0;
-        let rule = unsafe { boltclover_fault(self.words.as_ptr(), &mut slot) };
-        if rule == 0 {
-            None
-        } else {
-            Some(Fault { rule, slot: Node(slot) })
-        }
+        let number = unsafe { boltclover_fault(self.words.as_ptr(), &mut slot) };
+        rule(number).map(|rule| Fault { rule, slot: Node(slot) })
     }
 
     /// A table from words that were kept, whatever they are: every call finds out whether it is sound.

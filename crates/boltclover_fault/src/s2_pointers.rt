@@ -1,7 +1,7 @@
 // What S2 finds wrong at a slot: the first of its pointers that names no present slot.
 use crate::words;
 use crate::words::Wrong;
-use fault::s2_pointers::names_present;
+use fault_rules::s2_pointers::names_present;
 use slot::Node;
 use table::Table;
 

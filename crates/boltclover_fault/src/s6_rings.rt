@@ -3,7 +3,7 @@ use crate::fields;
 use crate::unmarked::first_unmarked;
 use crate::words;
 use crate::words::Wrong;
-use fault::s6_rings;
+use fault_rules::s6_rings;
 use slot::Node;
 use slot::number;
 use table::Table;

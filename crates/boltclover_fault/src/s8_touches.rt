@@ -1,8 +1,8 @@
 // What S8 finds wrong with a link: its touch, or its peer touch.
 use crate::words;
 use crate::words::Wrong;
-use fault::s8_touches::far_end;
-use fault::s8_touches::is_defect_inside;
+use fault_rules::s8_touches::far_end;
+use fault_rules::s8_touches::is_defect_inside;
 use slot::Node;
 use slot::number;
 use table::Table;

@@ -1,5 +1,5 @@
 // The first node that names another as its parent and that a walk along that node's list or ring did not come to.
-use fault::s6_rings::is_inner_child;
+use fault_rules::s6_rings::is_inner_child;
 use slot::Node;
 use slot::number;
 use sound_walks::children::is_child;

@@ -1,6 +1,1 @@
-pub mod Choices
-pub mod OneSlotSteps
-pub mod WaySteps
-pub mod ChildListSteps
-pub mod RingSteps
 pub mod Searching

@@ -13,10 +13,6 @@ use Rattle.rules.specs.declared.fault.Fault.the-variants.{Nowhere, At}
 use Rattle.rules.specs.Sound.{holds}
 use Rattle.rules.specs.Fault.{noFault, faultAt, lowestFault, orElse, firstFaultOf, firstFault}
 
--- the rule that a name stands for
-pub as-named : (r q : Rule) (t : Table) (n : ℕ) (b : Bool) → r ≡ q → b ≡ holds q t n → b ≡ holds r t n
-as-named r q t n b e h = h ∙ rw e
-
 module _ (r : Rule) (t : Table) (i : ℕ) where
   pub none-lower : 256 ≤ i → lowestFault r t (256 - i) i ≡ noFault
   unfolding lowestFault
