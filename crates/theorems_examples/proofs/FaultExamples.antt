@@ -10,7 +10,7 @@ use Rattle.rules.specs.declared.fault.Rule.the-variants.{S1, S2, S3, S4}
 use Rattle.rules.specs.Act.{alter}
 use Rattle.rules.specs.Slots.{withState, withParent, withFirstChild, withSibling}
 use Rattle.rules.proofs.Script.{all-rules}
-use Rattle.theorems_examples.proofs.FaultTables.{Named, withRing, withTouch, withThrough, withPeerTouch, withPeerThrough, pair, tree}
+use Rattle.theorems_examples.proofs.FaultTables.{Named, withRing, withTouch, withThrough, withPeerTouch, withPeerThrough, pair, tree, minus}
 
 -- ---- S1
 
@@ -77,16 +77,18 @@ matched-lacks :
 unfolding all-rules pair
 matched-lacks = (refl, refl, refl, refl)
 
--- "either a sibling, another matched node, pointing back": itself, a node that is matched to another, a free one, one with a child, one
--- that does not stay
+-- "either a sibling, another matched node, pointing back": itself, also by a link that is its own mirror; a node that is matched to another,
+-- one that points elsewhere with the mirrored link, a free one, one with a child, one that does not stay
 sibling-elsewhere :
     Named (alter 0 (withSibling 0) pair) S3 0
+    × Named (put (alter 0 (λ s. withSibling 0 (withPeerTouch 0 (withPeerThrough 10 s))) pair) 1 newNode) S3 0
+    × Named (alter 1 (withSibling 2) pair) S3 0
     × Named (alter 2 (λ s. withSibling 0 (withPeerTouch 0 s)) pair) S3 2
     × Named (put pair 1 newNode) S3 0
     × Named (alter 1 (withFirstChild 2) pair) S3 0
     × Named (alter 1 (withState S.Grow) pair) S3 0
 unfolding all-rules pair
-sibling-elsewhere = (refl, refl, refl, refl, refl)
+sibling-elsewhere = (refl, refl, refl, refl, refl, refl, refl)
 
 -- "with the mirrored link and a peer touch": whichever of the two was damaged, 0 is named, since neither link is the other's mirror; in the
 -- last each is, and neither has what it needs of the other's touch
@@ -127,8 +129,9 @@ plus-nodes :
     × Named (alter 1 (withSibling 3) tree) S4 0
     × Named (alter 3 (withParent 4) tree) S4 3
     × Named (alter 4 (withParent 3) tree) S4 4
-unfolding all-rules tree
-plus-nodes = (refl, refl, refl, refl)
+    × Named (alter 3 (withSibling 4) minus) S4 3
+unfolding all-rules tree minus
+plus-nodes = (refl, refl, refl, refl, refl)
 
 -- ---- several faults
 

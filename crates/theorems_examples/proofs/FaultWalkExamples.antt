@@ -92,6 +92,10 @@ ways-up = (refl, refl)
 inside-of : ℕ → Table
 inside-of n = alter 1 (λ s. shaped S.Inner n none none (s .link) s) (put pair 0 newNode)
 
+-- .. and 0 inside the defect 2, whose number is larger
+inside-larger : Table
+inside-larger = alter 0 (λ s. shaped S.Inner 2 none none (s .link) s) (put pair 1 newNode)
+
 -- ".. with a larger number": the table of `nested` with 128 and 129 in one another's place, so that 129 is a ring of 2, 0, 1 and 128 one
 -- of 129, 3, 4
 swapped : Table → Table
@@ -103,9 +107,9 @@ swapped t =
     (alter 4 (λ s. withParent 128 (withSibling 129 s))
     (put (put t 128 (withRing 129 (at t 129))) 129 (withParent 128 (at t 128)))))))
 
-inner-parents : Named (inside-of 0) S7 1 × Named (inside-of none) S7 1 × Named (swapped (after nested (fresh 128))) S7 129
-unfolding all-rules pair inside-of swapped nested
-inner-parents = (refl, refl, refl)
+inner-parents : Named (inside-of 0) S7 1 × Named (inside-of none) S7 1 × Named inside-larger S7 0 × Named (swapped (after nested (fresh 128))) S7 129
+unfolding all-rules pair inside-of inside-larger swapped nested
+inner-parents = (refl, refl, refl, refl)
 
 -- ---- S8, each touch at the slot that stores it
 
