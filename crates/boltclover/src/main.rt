@@ -1,6 +1,8 @@
 // The program of the rules: runs the tape on standard input, at most 65,536 bytes, on a fresh table of begin 128, or of the first
 // argument, and writes the answers to standard output. A tape that goes bad ends with an end record 12. A tape that is bad, or
 // longer, is named on standard error too. What is done with a tape stands in `turns`; here is its input and output.
+#![tactic(auto)]
+
 mod turns;
 
 use boltclover_shared::Ending;
@@ -25,7 +27,7 @@ fn end_bad_tape(tape: &[u8], unread: usize) -> Ending {
 }
 
 // What follows a turn: another, with so many bytes left unread, or the end.
-#[derive(Drop)]
+#[derive(Clone, Copy)]
 enum Next {
     Turn(usize),
     End(Ending),

@@ -1,6 +1,8 @@
 // The program that says why a table is damaged (ticket 5 of 02). A table stands on standard input as the C interface holds it: 2,819
 // words of two bytes, the low one first. Printed is "sound"; or the fault that `primal::fault` names, rule and slot, with what stands
 // there, then what the rule asks, and the slots that it is about, field by field.
+#![tactic(auto)]
+
 mod fields;
 mod printing;
 mod s1_slots;

@@ -3,7 +3,7 @@ use slot::{Node, number};
 use text_decimals::write_bytes;
 
 // A line of SENTENCES, the field that it names, and up to three numbers; and a slot to be shown beside the one at which the rule fails.
-#[derive(Drop)]
+#[derive(Clone, Copy)]
 pub struct Wrong {
     pub line: usize,
     pub field: usize,

@@ -1,4 +1,6 @@
 // What the programs share: their arguments, what they say on standard error, and how they end. The script `boltclover` starts them.
+#![tactic(auto)]
+
 use libc::{STDERR_FILENO, STDIN_FILENO, STDOUT_FILENO};
 use text_decimals::Number;
 
@@ -7,7 +9,7 @@ use text_decimals::Number;
 const STATUS_FILENO: i32 = 3;
 
 // How a program ends.
-#[derive(Drop)]
+#[derive(Clone, Copy)]
 pub enum Ending {
     // 0.
     Well,

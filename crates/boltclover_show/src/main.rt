@@ -1,6 +1,8 @@
 // The program for people: runs the tape on standard input, of any length, on a fresh table of begin 128, or of the first argument,
 // and prints each request and its answers in words, then the listing; or, where arguments name defects, whom each is paired with after
 // the tape, and nothing else. A tape that goes bad is named on standard error, and in what is printed of it ends with refusal 12.
+#![tactic(auto)]
+
 mod asking;
 mod conflict;
 mod expansion;

@@ -1,7 +1,7 @@
 // A reason: its line among the reasons in words, and the numbers that the line names.
 use slot::Node;
 
-#[derive(Drop)]
+#[derive(Clone, Copy)]
 pub struct Reason {
     pub line: usize,
     pub a: u16,

@@ -15,7 +15,7 @@ const AT_END: u8 = 1;
 const WRONG: u8 = 2;
 
 // How it ended, and the bytes of it that were read.
-#[derive(Drop)]
+#[derive(Clone, Copy)]
 struct Turn {
     ended: u8,
     used: usize,

@@ -1,5 +1,7 @@
 // The program that makes a tape: reads text as boltclover_show prints it from standard input, of any length, and writes the tape of
 // its requests to standard output. Every line that is no request is named on standard error, and then the tape is not to be used.
+#![tactic(auto)]
+
 mod lines;
 mod turns;
 

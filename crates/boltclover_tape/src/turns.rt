@@ -4,7 +4,7 @@ use crate::lines;
 use libc::STDIN_FILENO;
 
 // What was read so far: lines, and how many of them are bad; and whether the tape could be written.
-#[derive(Drop)]
+#[derive(Clone, Copy)]
 pub struct Count {
     pub lines: u64,
     pub bad: u64,
@@ -12,7 +12,7 @@ pub struct Count {
 }
 
 // The lines of a turn: what was counted, the bytes of text that were read and those of the tape that were made.
-#[derive(Drop)]
+#[derive(Clone, Copy)]
 struct Turn {
     lines: u64,
     bad: u64,

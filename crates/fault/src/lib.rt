@@ -1,5 +1,7 @@
 // Why a table is damaged (ticket 5 of 02): the first broken rule of S1 to S8, and the smallest slot that breaks it. Each rule is asked of
 // one slot after the other, for any words and without regard to time: a sound table is told before.
+#![tactic(auto)]
+
 ghost use Rattle.std.specs.Prelude.{◌≡◌};
 ghost use Rattle.table.specs.Words.{table_of};
 ghost use Rattle.rules.specs.Fault.{lowest_fault, or_else, first_fault};

@@ -1,4 +1,6 @@
 // The rules of soundness, S1 to S8, each asked of one slot as it is written (ticket 5 of 02), for any words and without regard to time.
+#![tactic(auto)]
+
 pub mod s1_slots;
 pub mod s2_pointers;
 pub mod s3_singles;

@@ -12,8 +12,8 @@ module _ {A : Type 0} (f : ℕ → A) where
   length-count i zero = refl
   length-count i (suc k) = ap suc (length-count (suc i) k)
 
-  pub get_d_count : (i k j : ℕ) (d : A) → j < k → get_or (count f i k) j d ≡ f (i + j)
+  pub get_or-count : (i k j : ℕ) (d : A) → j < k → get_or (count f i k) j d ≡ f (i + j)
   unfolding count
-  get_d_count i zero j d h = absurd (omega arith)
-  get_d_count i (suc k) zero d h = rw add-zero
-  get_d_count i (suc k) (suc j) d h = get_d_count (suc i) k j d (omega arith) ∙ rw (add-suc, suc-add)
+  get_or-count i zero j d h = absurd (omega arith)
+  get_or-count i (suc k) zero d h = rw add-zero
+  get_or-count i (suc k) (suc j) d h = get_or-count (suc i) k j d (omega arith) ∙ rw (add-suc, suc-add)

@@ -1,5 +1,7 @@
 // What each call promises, and what it answers on a table that is known to be sound, in specs/; the room that it has; and requests
 // and answers in plain numbers.
+#![tactic(auto)]
+
 pub mod fault;
 pub mod numbered;
 pub mod partner;

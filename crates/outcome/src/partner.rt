@@ -6,7 +6,7 @@ use refusal::Refusal;
 use slot::number;
 
 // The listing's entry that names the defect, as the defect sees it: `node` is the defect asked about.
-#[derive(Drop)]
+#[derive(Clone, Copy)]
 pub enum Partner {
     // No entry names the defect.
     Nobody,

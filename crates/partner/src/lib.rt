@@ -1,5 +1,7 @@
 // Whom a defect is paired with (ticket 3 of 02), on a table that is known to be sound. The way up from the defect is noted once; the climb
 // from a link's touch then ends at the first noted node, so no node is climbed from twice. No list is written.
+#![tactic(auto)]
+
 pub mod following;
 pub mod way;
 

@@ -1,5 +1,7 @@
 // The public calls of the rules (docs/RULES-IN-WORDS.md), and nothing else. None asks anything of its caller: any table, request, tape, buffer and
 // position may be passed.
+#![tactic(auto)]
+
 mod serving;
 
 ghost use Rattle.std.specs.Prelude.{◌≡◌};

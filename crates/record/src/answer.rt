@@ -2,14 +2,14 @@
 use refusal::Side;
 use slot::{Node, Vertex};
 
-#[derive(Drop)]
+#[derive(Clone, Copy)]
 pub enum Speed {
     Stay,
     Grow,
     Shrink,
 }
 
-#[derive(Drop)]
+#[derive(Clone, Copy)]
 pub struct Pair {
     pub node: Node,
     pub peer: Node,
@@ -17,7 +17,7 @@ pub struct Pair {
     pub peer_through: Vertex,
 }
 
-#[derive(Drop)]
+#[derive(Clone, Copy)]
 pub struct VirtualPair {
     pub node: Node,
     pub through: Vertex,
@@ -25,7 +25,7 @@ pub struct VirtualPair {
 }
 
 // The first three are the commands. An end carries 0 or the refusal's number, and the side that the refusal is for.
-#[derive(Drop)]
+#[derive(Clone, Copy)]
 pub enum Record {
     Speed(Node, Speed),
     Create(Node),

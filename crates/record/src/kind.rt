@@ -1,5 +1,5 @@
 // The kinds of records, each with its number and its length.
-#[derive(Drop)]
+#[derive(Clone, Copy)]
 pub enum Kind {
     // Requests.
     Conflict,
@@ -19,7 +19,7 @@ pub enum Kind {
 }
 
 // A kind, and the bytes that a record of it has after its length: none are known for an other kind.
-#[derive(Drop)]
+#[derive(Clone, Copy)]
 pub struct Layout {
     pub kind: Kind,
     pub length: u16,

@@ -1,4 +1,6 @@
 // The records of the rules (docs/RULES-IN-WORDS.md): their kinds, and the requests and answers that they carry.
+#![tactic(auto)]
+
 pub mod answer;
 pub mod kind;
 pub mod layout;

@@ -2,7 +2,7 @@
 use refusal::Refusal;
 use slot::{Node, Vertex};
 
-#[derive(Drop)]
+#[derive(Clone, Copy)]
 pub struct Conflict {
     pub node_1: Node,
     pub node_2: Node,
@@ -12,7 +12,7 @@ pub struct Conflict {
     pub vertex_2: Vertex,
 }
 
-#[derive(Drop)]
+#[derive(Clone, Copy)]
 pub struct VirtualConflict {
     pub node: Node,
     pub touch: Node,
@@ -20,12 +20,12 @@ pub struct VirtualConflict {
     pub virtual_vertex: Vertex,
 }
 
-#[derive(Drop)]
+#[derive(Clone, Copy)]
 pub struct Expansion {
     pub node: Node,
 }
 
-#[derive(Drop)]
+#[derive(Clone, Copy)]
 pub enum Request {
     Conflict(Conflict),
     VirtualConflict(VirtualConflict),
@@ -35,7 +35,7 @@ pub enum Request {
 }
 
 // What stands first on a tape: a request with the bytes that its record fills, or a refusal.
-#[derive(Drop)]
+#[derive(Clone, Copy)]
 pub enum Reading {
     Request(Request, usize),
     Refused(Refusal),

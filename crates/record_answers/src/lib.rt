@@ -1,5 +1,7 @@
 // Each answer written at a position: the commands, the end of a request, the entries of a listing. Each call returns the position
 // after what it wrote; without room for the whole record it writes nothing and returns pos.
+#![tactic(auto)]
+
 ghost use Rattle.std.specs.Prelude.{◌≡◌};
 ghost use Rattle.record.specs.declared.answer.Record.TheVariants as R;
 ghost use Rattle.record.specs.Records.{speed_number, answer_bytes};

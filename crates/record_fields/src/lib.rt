@@ -1,4 +1,6 @@
 // Fields placed in lent bytes, low byte first, where the caller knows that there is room.
+#![tactic(auto)]
+
 pub mod runs;
 
 ghost use Rattle.std.specs.Prelude.{◌≡◌, [], ◌∷◌, ◌+◌, ◌≤◌, length};

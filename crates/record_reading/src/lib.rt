@@ -1,4 +1,6 @@
 // Reading a record from a tape.
+#![tactic(auto)]
+
 pub mod fields;
 pub mod padding;
 

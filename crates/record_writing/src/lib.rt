@@ -1,4 +1,6 @@
 // Writing an answer, whichever it is: the public call.
+#![tactic(auto)]
+
 pub mod requests;
 
 ghost use Rattle.std.specs.Prelude.{◌≡◌};

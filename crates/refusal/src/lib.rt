@@ -1,9 +1,11 @@
 // The numbers given back: every refusal of the rules (docs/RULES-IN-WORDS.md), and the answer of a call that writes.
+#![tactic(auto)]
+
 ghost use Rattle.std.specs.Prelude.{◌≡◌};
 ghost use Rattle.refusal.specs.Refusal.{number_of, side_number, answer_number, answer_written};
 
 // One case for each number of 01's table, in its order.
-#[derive(Drop)]
+#[derive(Clone, Copy)]
 pub enum Refusal {
     NotSound,
     NoRecordRoom,
@@ -21,7 +23,7 @@ pub enum Refusal {
 }
 
 // Which of the two nodes that a conflict names a refusal is for. A virtual conflict's one node is the first; other refusals name no side.
-#[derive(Drop)]
+#[derive(Clone, Copy)]
 pub enum Side {
     Neither,
     First,
@@ -29,14 +31,14 @@ pub enum Side {
 }
 
 // How a call ends: done, with the number of bytes that it wrote, or refused, at a side, with nothing changed.
-#[derive(Drop)]
+#[derive(Clone, Copy)]
 pub enum Answer {
     Done(usize),
     Refused(Refusal, Side),
 }
 
 // What the checks of a request come to.
-#[derive(Drop)]
+#[derive(Clone, Copy)]
 pub enum Verdict {
     Accepted,
     Refused(Refusal, Side),

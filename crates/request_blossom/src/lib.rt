@@ -1,4 +1,6 @@
 // Making a blossom. Each walk is bounded, so it ends on any table.
+#![tactic(auto)]
+
 pub mod list;
 pub mod ringing;
 pub mod transfer;

@@ -1,4 +1,6 @@
 // Taking a − blossom apart. P is the ring node that holds the blossom's touch, C the one that holds its child's peer touch.
+#![tactic(auto)]
+
 pub mod attaching;
 pub mod opening;
 

@@ -1,4 +1,6 @@
 // Which of a request's numbers is given (01, "Numbers given back"), on a table that is sound and with room for commands.
+#![tactic(auto)]
+
 pub mod checks;
 pub mod nodes;
 pub mod states;

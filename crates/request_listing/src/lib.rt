@@ -1,5 +1,7 @@
 // The listing (01, "The listing"), on a table that is known to be sound: only slots that were given out can hold a node (S1), so
 // only those are looked at.
+#![tactic(auto)]
+
 pub mod pairs;
 pub mod slots;
 

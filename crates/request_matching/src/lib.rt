@@ -1,4 +1,6 @@
 // Augmenting a tree (01, "What a conflict does"): to the root, and each subtree matched on the way.
+#![tactic(auto)]
+
 pub mod altering;
 pub mod growth;
 pub mod pairing;

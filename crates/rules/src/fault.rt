@@ -5,7 +5,7 @@ ghost use Rattle.rules.specs.Fault.{rule_number};
 use slot::Node;
 
 // In 01's order.
-#[derive(Drop)]
+#[derive(Clone, Copy)]
 pub enum Rule {
     S1,
     S2,
@@ -17,7 +17,7 @@ pub enum Rule {
     S8,
 }
 
-#[derive(Drop)]
+#[derive(Clone, Copy)]
 pub enum Fault {
     // The table is sound.
     Nowhere,

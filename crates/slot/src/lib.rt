@@ -1,4 +1,6 @@
 // Numbers, links and slots as plain values: port 1 of the rules (docs/RULES-IN-WORDS.md).
+#![tactic(auto)]
+
 pub mod link;
 pub mod number;
 pub mod state;

@@ -4,7 +4,7 @@ ghost use Rattle.slot.specs.Slot.{link_of, no_link, mirror};
 
 use crate::number::{Node, Vertex};
 
-#[derive(Drop)]
+#[derive(Clone, Copy)]
 pub struct Link {
     pub touch: Node,
     pub through: Vertex,

@@ -2,10 +2,10 @@
 ghost use Rattle.std.specs.Prelude.{◌≡◌, ◌%◌, ◌/◌};
 ghost use Rattle.slot.specs.Number.{vertex_from};
 
-#[derive(Drop)]
+#[derive(Clone, Copy)]
 pub struct Node(pub u16);
 
-#[derive(Drop)]
+#[derive(Clone, Copy)]
 pub struct Vertex(pub u32);
 
 // 01: "Node numbers have 16 bits (65,535 is none), vertex numbers 32 (4,294,967,295 is none)."

@@ -2,7 +2,7 @@
 ghost use Rattle.std.specs.Prelude.{◌≡◌};
 ghost use Rattle.slot.specs.State.{state_of, mark_of};
 
-#[derive(Drop)]
+#[derive(Clone, Copy)]
 pub enum State {
     // No node.
     Empty,

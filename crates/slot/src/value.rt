@@ -6,7 +6,7 @@ use crate::link::Link;
 use crate::number::Node;
 use crate::state::State;
 
-#[derive(Drop)]
+#[derive(Clone, Copy)]
 pub struct Slot {
     pub state: State,
     pub parent: Node,

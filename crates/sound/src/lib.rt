@@ -2,6 +2,8 @@
 //
 // Slots that are not given out must be empty; the others, the defects below `count_defects` and the blossoms from begin on, are
 // judged one by one, with the numbers that a walk along rings gives, and then along child lists and ways up.
+#![tactic(auto)]
+
 pub mod slots;
 
 ghost use Rattle.std.specs.Prelude.{◌≡◌};

@@ -9,7 +9,7 @@ use native.Mathlib.Omega.{arith}
 use lib.ListN.{length, get_or}
 use lib.Seq.{ext_get_or}
 use Rattle.lists.specs.Count.{count}
-use Rattle.lists.proofs.Count.{get_d_count}
+use Rattle.lists.proofs.Count.{get_or-count}
 use Rattle.slot.specs.declared.state.State.TheVariants.{Damaged}
 use Rattle.slot.specs.State.{state_of}
 use Rattle.slot.specs.Slot.{Slot}
@@ -62,7 +62,7 @@ module _ (ws vs : List ℕ) (f : Words ws) (g : Words vs) (e : table_of ws ≡ t
       let s : slot_from ws (n * 11) ≡ slot_from vs (n * 11) = at_words ws n h ∙ ap (λ (t : Table). at t n) e ∙ sym (at_words vs n h) in
       let w = sym (words_back ws (n * 11) f (small ws e n h)) ∙ ap slot_words s ∙ words_back vs (n * 11) g (small vs refl n h) in
       let p = ap (λ (l : List ℕ). get_or l k 0) w in
-      rw zero-add at (sym (get_d_count (λ j. get_or ws (n * 11 + j) 0) 0 11 k 0 q) ∙ p ∙ get_d_count (λ j. get_or vs (n * 11 + j) 0) 0 11 k 0 q)
+      rw zero-add at (sym (get_or-count (λ j. get_or ws (n * 11 + j) 0) 0 11 k 0 q) ∙ p ∙ get_or-count (λ j. get_or vs (n * 11 + j) 0) 0 11 k 0 q)
 
   counts_eq : (k : ℕ) → k < 3 → get_or ws (2816 + k) 0 ≡ get_or vs (2816 + k) 0
   unfolding table_of

@@ -9,7 +9,7 @@ use lib.ListN.{length, get_or, set, length-set, get_or-eq_default}
 use lib.Seq.{get_or-set_same, get_or-set_other, set_out, ext_get_or}
 use Rattle.lists.specs.Count.{count}
 use Rattle.lists.specs.Stores.{stores}
-use Rattle.lists.proofs.Count.{length-count, get_d_count}
+use Rattle.lists.proofs.Count.{length-count, get_or-count}
 use Rattle.lists.proofs.Stores.{stores-out, stores-in, stores-join}
 use Rattle.slot.specs.Number.{vertex_from}
 use Rattle.slot.specs.State.{state_of, mark_of}
@@ -53,7 +53,7 @@ slots_length ws = length-count (λ i. slot_from ws (i * 11)) 0 256
 
 pub at_words : (ws : List ℕ) (n : ℕ) → n < 256 → slot_from ws (n * 11) ≡ at (table_of ws) n
 unfolding at table_of
-at_words ws n h = sym (get_d_count (λ i. slot_from ws (i * 11)) 0 256 n empty_slot h ∙ rw zero-add)
+at_words ws n h = sym (get_or-count (λ i. slot_from ws (i * 11)) 0 256 n empty_slot h ∙ rw zero-add)
 
 pub at_past : (ws : List ℕ) (n : ℕ) → 256 ≤ n → empty_slot ≡ at (table_of ws) n
 unfolding at
@@ -82,7 +82,7 @@ tables_agree ws t l slots b d c =
           ext_get_or empty_slot (count (λ j. slot_from ws (j * 11)) 0 256) t.slots (length-count (λ j. slot_from ws (j * 11)) 0 256 ∙ sym l)
           (λ m q.
           let q' : m < 256 = rw length-count at q in
-          get_d_count (λ j. slot_from ws (j * 11)) 0 256 m empty_slot q' ∙ rw zero-add (slots m q')) i;
+          get_or-count (λ j. slot_from ws (j * 11)) 0 256 m empty_slot q' ∙ rw zero-add (slots m q')) i;
       begin = b i;
       defects = d i;
       blossoms = c i;

@@ -1,5 +1,7 @@
 // The table in words that the caller lends. `get` is total: past the last slot stands the empty one. Slots are stored in `storing`, the
 // counts stand in `counts`, and above this crate nothing knows the layout of the words.
+#![tactic(auto)]
+
 pub mod climb;
 pub mod counts;
 pub mod field;

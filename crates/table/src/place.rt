@@ -7,7 +7,7 @@ ghost use Rattle.table.specs.Place.{place};
 use crate::Table;
 use slot::Node;
 
-#[derive(Drop)]
+#[derive(Clone, Copy)]
 pub enum Place {
     Free,
     // Matched to this peer.

@@ -1,4 +1,6 @@
 // Making a table and emptying one (01, "The table", port 2).
+#![tactic(auto)]
+
 pub mod resetting;
 
 ghost use Rattle.std.specs.Prelude.{◌≡◌, ◌-◌};

@@ -4,7 +4,7 @@ ghost use Rattle.tape.specs.Next.{next_of};
 
 use record::{Reading, Request};
 
-#[derive(Drop)]
+#[derive(Clone, Copy)]
 pub enum Next {
     // The stop's number.
     Stop(u16),

@@ -34,7 +34,7 @@ pub fn allowance() -> u32
 }
 
 // How it ends.
-#[derive(Drop)]
+#[derive(Clone, Copy)]
 pub enum TurnEnd {
     // The tape is read to its end.
     TapeRead,
@@ -47,7 +47,7 @@ pub enum TurnEnd {
 }
 
 // What a turn tells: its end, the records handled, the bytes written, and how many bytes of the tape are left unread.
-#[derive(Drop)]
+#[derive(Clone, Copy)]
 pub struct Turn {
     pub end: TurnEnd,
     pub handled: u32,

@@ -4,6 +4,8 @@
 //   |2... ab.. ca.. cb.. de.. |   Does these requests on a fresh table, and the last two, here, in every order. Requests that
 //                                concern nothing in common, and of which at most one makes a blossom, leave the same table
 //                                and get the same commands in every order.
+#![tactic(auto)]
+
 mod letters;
 mod orders;
 mod stored;

@@ -1,4 +1,6 @@
 // Requests and answers in words, a line each, and back. An answer's line is indented by two spaces.
+#![tactic(auto)]
+
 mod faults;
 mod fields;
 mod forms;

@@ -8,7 +8,7 @@ use crate::words::{is_blank, same_word, start_of, word_from};
 use text_decimals::Number;
 
 // What a line says.
-#[derive(Drop)]
+#[derive(Clone, Copy)]
 pub enum Line {
     // Nothing to read here: an empty line, a comment, an answer, the heading of the listing, or a question for a partner.
     Passed,
@@ -19,7 +19,7 @@ pub enum Line {
 
 // The first place at which a line is no request, counted from 0, and the word that was expected there: of the form of this kind,
 // the one that so many others stand before. Kind 0: the first word of any request.
-#[derive(Drop)]
+#[derive(Clone, Copy)]
 pub struct Fault {
     pub place: usize,
     pub kind: u16,

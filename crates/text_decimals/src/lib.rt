@@ -1,10 +1,12 @@
 // Text in lent bytes: words copied, and numbers in decimal, written and read.
+#![tactic(auto)]
+
 ghost use Rattle.std.specs.Prelude.{◌≡◌};
 ghost use Rattle.record.specs.Writing.{out_of, written};
 ghost use Rattle.text_decimals.specs.Decimal.{decimal, number_within};
 
 // What a word says as a number.
-#[derive(Drop)]
+#[derive(Clone, Copy)]
 pub enum Number {
     Is(u32),
     // Not digits alone, or more than is allowed.
