@@ -6,6 +6,7 @@ ghost use Rattle.record.specs.Padding.{padded_length};
 
 use crate::{Kind, Layout, kind};
 
+#[tactic(auto, unfolding(crate::specs::Kinds::layout_of))]
 pub fn layout_of(number: u16) -> Layout
     ensures { result ≡ layout_of number }
 {
