@@ -1,5 +1,5 @@
 -- Where the words of a table stand: the one place that numbers them, as src/layout has them.
-use Rattle.std.specs.Prelude.{ℕ, ◌+◌, ◌*◌}
+use Rattle.std.specs.Prelude.{ℕ}
 
 -- mark, parent, first child, sibling, first blossom child, and six words of the link
 abbrev pub slot_size : ℕ

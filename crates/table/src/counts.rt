@@ -6,18 +6,21 @@ ghost use Rattle.table.specs.Counts.{with_begin, with_defects, with_blossoms, bl
 use crate::{Table, layout};
 
 // `blossom_begin`: the first slot that is no defect's.
+#[tactic(auto, unfolding(crate::specs::Words::table_of))]
 pub fn begin(t: &Table) -> u16
     ensures { result ≡ (table_of t.now).begin }
 {
     t[layout::BEGIN]
 }
 
+#[tactic(auto, unfolding(crate::specs::Words::table_of))]
 pub fn count_defects(t: &Table) -> u16
     ensures { result ≡ (table_of t.now).defects }
 {
     t[layout::COUNT_DEFECTS]
 }
 
+#[tactic(auto, unfolding(crate::specs::Words::table_of))]
 pub fn count_blossoms(t: &Table) -> u16
     ensures { result ≡ (table_of t.now).blossoms }
 {
