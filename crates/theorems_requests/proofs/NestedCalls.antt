@@ -33,19 +33,19 @@ pub record Joined (t : Table) (n peer : ℕ) : Type 0 where
 
 -- d is strictly inside the blossom b
 pub record Within (t : Table) (b d : ℕ) : Type 0 where
-  pub is_inner_lem : T (inner t d)
+  pub is_inner : T (inner t d)
   pub around : Inside t b (up t d)
 
 module _ (t : Table) (full : Full t) (rest : Rest t) where
   -- a defect inside a blossom is inner
   pub defect_within : (b d : ℕ) → t.begin ≤ b → DefectInside t b d → Within t b d
   defect_within b d l h =
-      elim (inside_case t b d h.inside) [ inl e ↦ absurd (omega (arith, h.defect)) | inr r ↦ record { is_inner_lem = r.0; around = r.1 } ]
+      elim (inside_case t b d h.inside) [ inl e ↦ absurd (omega (arith, h.defect)) | inr r ↦ record { is_inner = r.0; around = r.1 } ]
 
   -- the blossom at the next level
   pub next_level : (b d : ℕ) → Within t b d → up t d ≢ b → Within t b (up t d)
   next_level b d w n =
-      elim (inside_case t b (up t d) w.around) [ inl e ↦ absurd (n e) | inr r ↦ record { is_inner_lem = r.0; around = r.1 } ]
+      elim (inside_case t b (up t d) w.around) [ inl e ↦ absurd (n e) | inr r ↦ record { is_inner = r.0; around = r.1 } ]
 
   pub ring_joined : (n : ℕ) → T (inner t n) → Joined t n (next t n)
   ring_joined n i =
