@@ -1,6 +1,6 @@
 // Each answer written at a position: the commands, the end of a request, the entries of a listing. Each call returns the position
 // after what it wrote; without room for the whole record it writes nothing and returns pos.
-#![tactic(auto)]
+#![tactic(auto, unfolding(record::specs::Records::answer_bytes))]
 
 ghost use Rattle.std.specs.Prelude.{◌≡◌};
 ghost use Rattle.record.specs.declared.answer.Record.TheVariants as R;

@@ -1,0 +1,12 @@
+use Rattle.std.proofs.Common.{refl, arith}
+use Rattle.record.proofs.Written.{joined, written_none, written-placed}
+use Rattle.record_fields.proofs.runs.narrow_6_wide_2.Goals as goal
+
+pub returns-then-out-lt20 : goal.returns-then-out-lt20
+returns-then-out-lt20 c = written_none _ _ _ (omega arith)
+
+pub returns-then-out-pos : goal.returns-then-out-pos
+returns-then-out-pos c = written_none _ _ _ (omega arith)
+
+pub returns : goal.returns
+returns c = written-placed _ _ _ (joined _ _ _ _ _ _ _ (joined _ _ _ _ _ _ _ c.four.ensures c.two.ensures refl) c.two_wide.ensures refl) refl (omega arith)
