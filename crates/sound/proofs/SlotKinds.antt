@@ -117,7 +117,7 @@ module _ (t : Table) (full : Full t) (sizes : Sizes t) (held : ℕ → ℕ → B
         let r = pair→ peer other.1 in
         let back : SmallerOrMirrored peer n = rw b.1 at r.1 in
         let m : (peer ≢ n) × ((at t peer).link ≡ mirror (at t n).link) = mirrored n peer q.1 back in
-        record { here = mine.0; sibling = refl; another = m.0; there = other.0; points_back_lem = b.1; mirrored = m.1 }
+        record { here = mine.0; sibling = refl; another = m.0; there = other.0; points_back = b.1; mirrored = m.1 }
       where
         mirrored : (n peer : ℕ) → SmallerOrMirrored n peer → SmallerOrMirrored peer n → (peer ≢ n) × ((at t peer).link ≡ mirror (at t n).link)
         mirrored n peer (inr h) k = h

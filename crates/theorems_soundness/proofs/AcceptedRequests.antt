@@ -75,8 +75,8 @@ pub record Acceptable (t : Table) (c : Conflict) : Type 0 where
   pub two : c.node_1.0 ≢ c.node_2.0
   pub inside_1 : DefectInside t c.node_1.0 c.touch_1.0
   pub inside_2 : DefectInside t c.node_2.0 c.touch_2.0
-  pub vertex_1_lem : c.vertex_1.0 ≢ no_vertex
-  pub vertex_2_lem : c.vertex_2.0 ≢ no_vertex
+  pub vertex_1 : c.vertex_1.0 ≢ no_vertex
+  pub vertex_2 : c.vertex_2.0 ≢ no_vertex
   pub not_minus_1 : (seen t c.node_1.0).state ≢ S.Shrink
   pub not_minus_2 : (seen t c.node_2.0).state ≢ S.Shrink
   pub slot : (makes_blossom t c.node_1.0 c.node_2.0 && lacks_blossom_slot t) ≡ false
@@ -100,8 +100,8 @@ acceptable t room c e =
       two = λ q. no_test (eqb x y) r.1.1.1.1.0 (simp tests q);
       inside_1 = defect_inside t x c.touch_1.0 touches.0;
       inside_2 = defect_inside t y c.touch_2.0 touches.1.0;
-      vertex_1_lem = vertex_some v first.1;
-      vertex_2_lem = vertex_some u second.1;
+      vertex_1 = vertex_some v first.1;
+      vertex_2 = vertex_some u second.1;
       not_minus_1 = λ q. no_test (is_minus_node t x) minus.0 ((shrink↔ (seen t x).state).1 q);
       not_minus_2 = λ q. no_test (is_minus_node t y) minus.1 ((shrink↔ (seen t y).state).1 q);
       slot = touches.1.1.1.0;

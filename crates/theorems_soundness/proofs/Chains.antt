@@ -1,6 +1,6 @@
 -- The laws of chains, for any pointer: a walk that ends finds a chain; there is only one chain from a node, nothing repeats on
 -- it, and a walk with budget enough finds it.
-use mathlib.Core.Path.{◌≡◌, refl, ap, sym}
+use mathlib.Core.Path.{◌≡◌, refl, ap, sym, subst}
 use mathlib.Core.Logic.{◌≢◌, ◌⊎◌, inl, inr}
 use mathlib.Core.List.{List, [], ◌∷◌, ◌++◌}
 use Prim.Native.Nat.{ℕ, zero, suc, ◌≤◌, ◌<◌}
@@ -102,7 +102,7 @@ module _ (next : ℕ → ℕ) where
 
   pub chain_next : (a : ℕ) (cs : List ℕ) → Chain next a cs → (j : ℕ) → j ∈ cs → next j ≢ none → next j ∈ cs
   chain_next a [] p j m d = absurd m
-  chain_next a (c ∷ cs) p j (inl e) d = inr (rw e (chain_start (next c) cs p.2 (λ z. d (rw e z))))
+  chain_next a (c ∷ cs) p j (inl e) d = inr (subst (λ (x : ℕ). next x ∈ cs) (sym e) (chain_start (next c) cs p.2 (λ z. d (rw e z))))
   chain_next a (c ∷ cs) p j (inr m) d = inr (chain_next (next c) cs p.2 j m d)
 
   -- each but the first stands after another

@@ -72,7 +72,7 @@ module _ (t u : Table) (ws : List ℕ) (seen : SeenAlike t u ws) where
   kind_frame n o d (paired_node p) =
       let e = seen.same n d in
       let f = seen.peer n o d p in
-      paired_kind u n (next t n) (record { here = rw e p.here; sibling = rw (e, next); another = p.another; there = rw f p.there; points_back_lem = rw (f, next) p.points_back; mirrored = rw (f, e) p.mirrored })
+      paired_kind u n (next t n) (record { here = rw e p.here; sibling = rw (e, next); another = p.another; there = rw f p.there; points_back = rw (f, next) p.points_back; mirrored = rw (f, e) p.mirrored })
   kind_frame n o d (root_node r) = root_node (rw (seen.same n d) r)
   kind_frame n o d (minus_node m) =
       let up-grows = seen.parent_state n o d ∙ m.parent_grows in

@@ -108,7 +108,7 @@ module _ (t : Table) (n : ℕ) where
 
 -- a pair seen from its other node
 pub paired_back : (t : Table) (n peer : ℕ) → Paired t n peer → Paired t peer n
-paired_back t n peer p = record { here = p.there; sibling = p.points_back; another = λ e. p.another (sym e); there = p.here; points_back_lem = p.sibling; mirrored = rw p.mirrored }
+paired_back t n peer p = record { here = p.there; sibling = p.points_back; another = λ e. p.another (sym e); there = p.here; points_back = p.sibling; mirrored = rw p.mirrored }
 
 pub paired_kind : (t : Table) (n peer : ℕ) → Paired t n peer → Kind t n
 paired_kind t n peer p = paired_node (rw p.sibling p)

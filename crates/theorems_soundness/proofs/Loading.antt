@@ -58,7 +58,7 @@ module _ (t : Table) (n : ℕ) (w : Whole t) (defect : n < t.begin) (empty : (at
       let z = w.rest.sizes in
       record {
         some_defect = omega (arith, z.some_defect, counts.0);
-        begin_fits_lem = omega (arith, z.begin_fits, counts.0);
+        begin_fits = omega (arith, z.begin_fits, counts.0);
         defects_fit = omega (arith, z.defects_fit, counts.0, counts.1);
         blossoms_fit = omega (arith, z.blossoms_fit, counts.0, counts.2);
       }

@@ -139,7 +139,7 @@ module _ {t u : Table} {b m : ℕ} {ring moved : List ℕ} (w : Whole t) (d : Ma
       let z = w.rest.sizes in
       record {
         some_defect = omega (arith, z.some_defect, d.begin);
-        begin_fits_lem = omega (arith, z.begin_fits, d.begin);
+        begin_fits = omega (arith, z.begin_fits, d.begin);
         defects_fit = omega (arith, z.defects_fit, d.begin, d.defects);
         blossoms_fit = omega (arith, d.begin, d.blossoms, d.slot, d.left);
       }

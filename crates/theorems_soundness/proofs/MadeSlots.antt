@@ -121,7 +121,7 @@ module _ {t u : Table} {b m : ℕ} {ring moved : List ℕ} (w : Whole t) (d : Ma
   pub data Where (j : ℕ) : Type 0 where
     is_new : j ≡ b → Where j
     is_above : j ≢ b → j ≡ up t m → T (outer t j) → ¬ (j ∈ ring) → ¬ (j ∈ moved) → at u j ≡ with_first_child b (at t j) → Where j
-    in_ring_lem : j ∈ ring → Where j
+    in_ring : j ∈ ring → Where j
     is_moved : j ∈ moved → Where j
     elsewhere : j ≢ b → ¬ (j ∈ ring) → ¬ (j ∈ moved) → at u j ≡ at t j → Where j
 
@@ -130,7 +130,7 @@ module _ {t u : Table} {b m : ℕ} {ring moved : List ℕ} (w : Whole t) (d : Ma
       elim (same_or_not j b) [
         | inl e ↦ is_new e
         | inr nb ↦ elim (in_or_not j ring) [
-          | inl i ↦ in_ring_lem i
+          | inl i ↦ in_ring i
           | inr nr ↦ elim (in_or_not j moved) [ inl i ↦ is_moved i | inr nm ↦ apart nb nr nm (same_or_not j (up t m)) (same_or_not (up t m) none) ]
         ]
       ]
@@ -146,7 +146,7 @@ module _ {t u : Table} {b m : ℕ} {ring moved : List ℕ} (w : Whole t) (d : Ma
       go : Where j → (at u j).state ≡ (at t j).state
       go (is_new e) = absurd (nb e)
       go (is_above _ _ _ _ _ e) = rw e
-      go (in_ring_lem i) = absurd (nr i)
+      go (in_ring i) = absurd (nr i)
       go (is_moved i) = rw (d.adopted j i)
       go (elsewhere _ _ _ e) = rw e
 
@@ -161,7 +161,7 @@ module _ {t u : Table} {b m : ℕ} {ring moved : List ℕ} (w : Whole t) (d : Ma
       go : Where j → Alike j
       go (is_new e) = absurd (nb e)
       go (is_above _ _ _ _ _ e) = record { parent = rw (up, e); sibling = rw (next, e) }
-      go (in_ring_lem i) = absurd (nr i)
+      go (in_ring i) = absurd (nr i)
       go (is_moved i) = absurd (nm i)
       go (elsewhere _ _ _ e) = record { parent = rw (up, e); sibling = rw (next, e) }
 

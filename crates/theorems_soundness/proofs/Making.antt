@@ -1,5 +1,5 @@
 -- Making a blossom, step by step: what the rule leaves in each slot of a sound table, and so that it keeps it sound.
-use mathlib.Core.Path.{◌≡◌, refl, ap, sym, ◌∙◌}
+use mathlib.Core.Path.{◌≡◌, refl, ap, sym, subst, ◌∙◌}
 use mathlib.Core.Logic.{◌≢◌, ◌⊎◌, inl, inr}
 use mathlib.Core.List.{List, [], ◌∷◌, ◌++◌}
 use Prim.Native.Nat.{ℕ, ◌+◌, ◌%◌, ◌≤◌, ◌<◌}
@@ -109,7 +109,7 @@ module _ {x y : ℕ} {l : Link} {t : Table} (o : OneTree t x y l) (slot : ¬ T (
 
   not_above : (j : ℕ) → j ∈ ring → j ≢ up t m
   not_above j i e =
-      Path.no_ring_above w o.grows_1 o.grows_2 paths (rw e at i)
+      Path.no_ring_above w o.grows_1 o.grows_2 paths (subst (λ (z : ℕ). z ∈ ring) e i)
 
   -- ---- the children off the two paths
 
@@ -285,7 +285,7 @@ module _ {x y : ℕ} {l : Link} {t : Table} (o : OneTree t x y l) (slot : ¬ T (
       adopted_self (at u j) (at t j) r.0 (late j q.2 ∙ r.1 ∙ ap (λ (s : Slot). with_sibling r.0 (with_parent b s)) before)
     where
       not_off : j ≡ up t m → ¬ OffPath t ring j
-      not_off e q = twice_above t w.full m ring tree (λ z. some_outer t w.full j q.0 (e ∙ z)) (rw e at q.1)
+      not_off e q = twice_above t w.full m ring tree (λ z. some_outer t w.full j q.0 (e ∙ z)) (subst (λ (z : ℕ). up t z ∈ ring) e q.1)
 
   made : Made t u b m ring moved-list
   made =
@@ -310,7 +310,7 @@ module _ {x y : ℕ} {l : Link} {t : Table} (o : OneTree t x y l) (slot : ¬ T (
         round = round;
         odd = numbers.0;
         three = numbers.1;
-        goes_on = λ j i. let q = ring_node j i in rw (next, q.is) q.within;
+        goes_on = λ j i. let q = ring_node j i in subst (λ (s : Slot). s.sibling ∈ ring) (sym q.is) q.within;
         right = λ j i. let q = ring_node j i in rw (next, q.is) q.right;
       }
     where

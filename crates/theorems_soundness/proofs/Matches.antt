@@ -65,14 +65,14 @@ slots_paired u a l b s r p q d f =
       sibling = rw (p, next);
       another = λ e. d (sym e);
       there = rw q (record { stays = refl; parentless = refl; childless = refl; linked = mirrored_full l f });
-      points_back_lem = rw (q, next);
+      points_back = rw (q, next);
       mirrored = rw (q, p);
     }
 
 -- pairs that two tables hold alike
 pub paired_frame : (t u : Table) (a b : ℕ) → at u a ≡ at t a → at u b ≡ at t b → Paired t a b → Paired u a b
 paired_frame t u a b e f p =
-    record { here = rw e p.here; sibling = rw (next, e) p.sibling; another = p.another; there = rw f p.there; points_back_lem = rw (next, f) p.points_back; mirrored = rw (f, e) p.mirrored }
+    record { here = rw e p.here; sibling = rw (next, e) p.sibling; another = p.another; there = rw f p.there; points_back = rw (next, f) p.points_back; mirrored = rw (f, e) p.mirrored }
 
 -- ---- the rest, for any two outer nodes
 

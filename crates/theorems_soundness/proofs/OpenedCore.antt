@@ -61,7 +61,7 @@ module _ {t u : Table} {b : ℕ} (d : Opened t u b) where
             sibling = outer_sibling d i o n ∙ read_other b d.top j nb;
             another = p.another;
             there = rw f (record { stays = p.there.stays; parentless = p.there.parentless; childless = still_none d (at t j).first_child p.there.childless; linked = p.there.linked });
-            points_back_lem = outer_sibling d j oj nb ∙ ap (read_as b d.top) p.points_back ∙ read_other b d.top i n;
+            points_back = outer_sibling d j oj nb ∙ ap (read_as b d.top) p.points_back ∙ read_other b d.top i n;
             mirrored = rw (f, e) p.mirrored;
           })
 
@@ -169,12 +169,12 @@ module _ {t u : Table} {b : ℕ} (d : Opened t u b) where
 
       go : (j : ℕ) → up u j ≡ x → T (outer u j) → Place t b (d.top ∷ d.lower) d.matched j → ⊥
       go j e q (the_blossom z) = absurd (rw (z, d.emptied) at q)
-      go j e q (the_child z) = d.apart x (rw (sym (child_parent d) ∙ sym (ap (up u) z) ∙ e) at (bottom_in d)) m
+      go j e q (the_child z) = d.apart x (subst (λ (i : ℕ). i ∈ (d.top ∷ d.lower)) (sym (child_parent d) ∙ sym (ap (up u) z) ∙ e) (bottom_in d)) m
       go j e q (other_outer oj nb nk) = no_outer_child j x oj (sym (outer_parent d j oj nb nk) ∙ e) inner_x
       go j e q (is_attached i) =
           elim (limbs d j i).place [
             | inl z ↦ no_outer_child b x (blossom_outer d) (sym (top_parent d) ∙ sym (ap (up u) z) ∙ e) inner_x
-            | inr z ↦ d.apart x (rw e at z.0) m
+            | inr z ↦ d.apart x (subst (λ (i : ℕ). i ∈ (d.top ∷ d.lower)) e z.0) m
           ]
       go j e q (is_matched_lem i) = inner_some d x inner_x (sym e ∙ (two_paired d j i).here.parentless)
       go j e q (no_part h r) = h (rw (d.still j h r) at q)

@@ -1,5 +1,5 @@
 -- Where each slot stands when a blossom is taken apart, and what the outer nodes of before keep.
-use mathlib.Core.Path.{◌≡◌, refl, ap, sym, ◌∙◌}
+use mathlib.Core.Path.{◌≡◌, refl, ap, sym, subst, ◌∙◌}
 use mathlib.Core.Logic.{◌≢◌, ◌⊎◌, inl, inr}
 use mathlib.Core.Bool.{Bool, true, false}
 use mathlib.Core.List.{List, [], ◌∷◌}
@@ -63,7 +63,7 @@ module _ {t u : Table} {b : ℕ} (d : Opened t u b) where
   top_in = inl refl
 
   pub bottom_in : d.bottom ∈ (d.top ∷ d.lower)
-  bottom_in = rw (← d.ends) (end_in_lem d.top d.lower)
+  bottom_in = subst (λ (z : ℕ). z ∈ (d.top ∷ d.lower)) d.ends (end_in_lem d.top d.lower)
 
   pub outer_or_inner : (j : ℕ) → T (outer t j) → ¬ T (inner t j)
   outer_or_inner j o i = outer_not_inner (at t j).state o i

@@ -350,7 +350,7 @@ module _ {t u : Table} {b : ℕ} (d : Opened t u b) where
             let z = rest.sizes in
             record {
               some_defect = omega (arith, z.some_defect, d.counts.begin);
-              begin_fits_lem = omega (arith, z.begin_fits, d.counts.begin);
+              begin_fits = omega (arith, z.begin_fits, d.counts.begin);
               defects_fit = omega (arith, z.defects_fit, d.counts.begin, d.counts.defects);
               blossoms_fit = omega (arith, z.blossoms_fit, d.counts.begin, d.counts.blossoms);
             };

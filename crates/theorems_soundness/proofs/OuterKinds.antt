@@ -70,7 +70,7 @@ module _ (t : Table) (n : ℕ) where
         sibling = refl;
         another = p.0.0.0.1;
         there = record { stays = p.0.1; parentless = p.0.0.1.0.1; childless = p.0.0.1.1; linked = rw e (mirror_full (at t n).link f) };
-        points_back_lem = p.1;
+        points_back = p.1;
         mirrored = e;
       }
 

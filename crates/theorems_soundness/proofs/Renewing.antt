@@ -252,7 +252,7 @@ kept-each t u full rest counts each = kept_renewed t u rest counts.begin given r
         let z = rest.sizes in
         record {
           some_defect = omega (arith, z.some_defect, counts.begin);
-          begin_fits_lem = omega (arith, z.begin_fits, counts.begin);
+          begin_fits = omega (arith, z.begin_fits, counts.begin);
           defects_fit = omega (arith, z.defects_fit, counts.begin, counts.defects);
           blossoms_fit = omega (arith, z.blossoms_fit, counts.begin, counts.blossoms);
         }

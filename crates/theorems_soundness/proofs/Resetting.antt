@@ -32,7 +32,7 @@ fresh_absent b n p = rw (fresh_at b n) at p
 
 fresh_sizes : (b : ℕ) → 1 ≤ b → b ≤ 256 → Sizes (fresh b)
 unfolding fresh
-fresh_sizes b low high = record { some_defect = low; begin_fits_lem = high; defects_fit = omega arith; blossoms_fit = omega arith }
+fresh_sizes b low high = record { some_defect = low; begin_fits = high; defects_fit = omega arith; blossoms_fit = omega arith }
 
 fresh_pointers : (b n : ℕ) → Pointers (fresh b) (at (fresh b) n)
 fresh_pointers b n = rw (fresh_at b n) (record { parent = of_none; child = of_none; sibling = of_none; ring = of_none })

@@ -208,7 +208,7 @@ module _ (t : Table) (full-t : Full t) (rest : Rest t) where
       go : ButAt after final xs × AttachedDown t final (not grow) x none below xs → ButAt v (hung_down below grow parent l (x ∷ xs) v).table (x ∷ xs) × AttachedDown t (hung_down below grow parent l (x ∷ xs) v).table grow parent none below (x ∷ xs)
       go r =
           let h = hang-more v final x grow parent (head_or below xs) l xs full d in-t (rw s.0 at right) r.0 in
-          rw (hung-down-next below grow parent l x xs v) (h.0, (h.1, r.1))
+          subst (λ (u : Table). ButAt v u (x ∷ xs) × AttachedDown t u grow parent none below (x ∷ xs)) (sym (hung-down-next below grow parent l x xs v)) (h.0, (h.1, r.1))
 
   -- ---- C up to P, turned round
 
@@ -238,7 +238,8 @@ module _ (t : Table) (full-t : Full t) (rest : Rest t) where
   hung-up-does v above below l grow child x [] e full d in-t s right =
       let u = (attach x grow above child l v).table in
       let h = hang-more v u x grow above child l [] full d in-t right (but_nowhere u (attach_full v x grow above child l full)) in
-      rw (hung_up_last above l grow child x v) (h.0, λ acc q a. (subst (λ (j : ℕ). Attached t u x grow above j none) q h.1, a))
+      subst (λ (z : Table). ButAt v z (x ∷ []) × Raised z above below grow child x []) (sym (hung_up_last above l grow child x v))
+      (h.0, λ acc q a. (subst (λ (j : ℕ). Attached t u x grow above j none) q h.1, a))
   hung-up-does v above below l grow child x (y ∷ xs) e full d in-t s right =
       go (hung-up-does after above below l (not grow) x y xs e (attach_full v x grow y child (at v x).link full) d.1 (attach_still v x grow y child (at v x).link (y ∷ xs) d in-t) s.1 right)
     where
@@ -254,5 +255,5 @@ module _ (t : Table) (full-t : Full t) (rest : Rest t) where
       go r =
           let to_y : RightLink t x (at v x).link y = rw s.0 at (link_right v x (in-t x (inl refl)).0 (in-t x (inl refl)).1) in
           let h = hang-more v final x grow y child (at v x).link (y ∷ xs) full d in-t to_y r.0 in
-          rw (hung-up-next above l grow child x y xs v)
+          subst (λ (z : Table). ButAt v z (x ∷ (y ∷ xs)) × Raised z above below grow child x (y ∷ xs)) (sym (hung-up-next above l grow child x y xs v))
           (h.0, λ acc q a. r.1 (x ∷ acc) refl (subst (λ (g : Bool). AttachedDown t final g y none below (x ∷ acc)) (sym (not_not grow)) (subst (λ (j : ℕ). Attached t final x grow y j none) q h.1, a)))

@@ -1,6 +1,6 @@
 -- The ring that two paths make: "The ring runs meeting node, down to node_2, node_1, and up again". Its nodes as they stand in
 -- their tree, and which children of theirs are in it.
-use mathlib.Core.Path.{◌≡◌, refl, ap, sym, ◌∙◌}
+use mathlib.Core.Path.{◌≡◌, refl, ap, sym, subst, ◌∙◌}
 use mathlib.Core.Logic.{◌≢◌, ◌↔◌, ◌⊎◌, inl, inr}
 use mathlib.Core.List.{List, [], ◌∷◌, ◌++◌}
 use Prim.Native.Nat.{ℕ, ◌+◌, ◌%◌, ◌≤◌}
@@ -243,7 +243,7 @@ module _ {t : Table} {x y m : ℕ} (w : Whole t) (grows_1 : (at t x).state ≡ S
   one_child j c i g k r e =
       let n = shrink_is_minus t w.full w.core j g in
       let o : T (outer t j) = rw g tt in
-      rw (minus_only t w.full w.core j c o n k ∙ sym (minus_only t w.full w.core j i o n (ring_outer i r, e))) r
+      subst (λ (z : ℕ). z ∈ ring) (minus_only t w.full w.core j i o n (ring_outer i r, e) ∙ sym (minus_only t w.full w.core j c o n k)) r
 
   ring_downward : (j c : ℕ) → (at t j).state ≡ S.Shrink → OuterChild t j c → On j → c ∈ ring
   ring_downward j c g k (is_meeting e) = absurd (grow_shrink p.grows (rw e at g))
@@ -252,8 +252,8 @@ module _ {t : Table} {x y m : ℕ} (w : Whole t) (grows_1 : (at t x).state ≡ S
   ring_downward j c g k (on_second i) =
       elim (mark_before (up t) y p.ys m p.above p.way_2 j (inl i)) [ inl e ↦ absurd (grow_shrink grows_2 (rw e at g)) | inr q ↦ one_child j c q.0 g k (second_in q.0 q.1) q.2 ]
 
-  pub in_tree_lem : InTree t m ring
-  in_tree_lem =
+  pub in_tree : InTree t m ring
+  in_tree =
       record {
         meets = inl refl;
         grows = p.grows;
@@ -290,7 +290,10 @@ module _ {t : Table} {x y m : ℕ} (w : Whole t) (grows_1 : (at t x).state ≡ S
   pub below_meeting : InRingOnly t ring m (last_or x p.xs) (last_or y p.ys)
   below_meeting j k = (
     λ r. go (on_ring j r),
-    elim [ inl e ↦ rw e (last_within t m ring (inl refl) x p.xs side_1) | inr e ↦ rw e (last_within t m ring (inl refl) y p.ys side_2) ],
+    elim [
+      | inl e ↦ subst (λ (z : ℕ). z ∈ ring) (sym e) (last_within t m ring (inl refl) x p.xs side_1)
+      | inr e ↦ subst (λ (z : ℕ). z ∈ ring) (sym e) (last_within t m ring (inl refl) y p.ys side_2)
+    ],
   )
     where
       go : On j → (j ≡ last_or x p.xs) ⊎ (j ≡ last_or y p.ys)

@@ -1,7 +1,7 @@
 -- Soundness taken apart, rule by rule and slot by slot, and put together again.
 use mathlib.Core.Path.{refl}
 use mathlib.Core.Logic.{◌≢◌}
-use mathlib.Core.Bool.{and_false}
+use mathlib.Core.Bool.{and-false}
 use Prim.Native.Nat.{ℕ, ◌≤◌, ◌<◌}
 use native.Mathlib.Decide.{dec_lt}
 use native.Mathlib.Omega.{arith}
@@ -27,7 +27,7 @@ module _ (t : Table) where
   unfolding sound all_hold
   sound→rule h r =
       let p = simp (and↔, all_below↔) at h in
-      elim r [
+      elim r as (λ (r : Rule). (n : ℕ) → n < 256 → T (holds r t n)) [
         | S1 ↦ p.0
         | S2 ↦ p.1.0
         | S3 ↦ p.1.1.0
@@ -48,13 +48,13 @@ module _ (t : Table) where
   rule_past full r n l =
       let e = at_out t n full l in
       let d : n ≢ 0 = omega arith in
-      elim r [
+      elim r as (λ (r : Rule). T (holds r t n)) [
         | S1 ↦ simp (e, eqb_no n 0 d) tt
         | S2 ↦ simp e tt
         | S3 ↦ simp e tt
         | S4 ↦ simp e tt
         | S5 ↦ simp e tt
-        | S6 ↦ simp (e, and_false) tt
+        | S6 ↦ simp (e, and-false) tt
         | S7 ↦ simp e tt
         | S8 ↦ simp e tt
       ]

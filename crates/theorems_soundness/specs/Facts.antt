@@ -15,7 +15,7 @@ use Rattle.theorems_soundness.specs.FactsOfBlossoms.{PresentBlossom, Ring, InBlo
 -- "begin is 1 to 256, `count_defects` ≤ begin, begin + `count_blossoms` ≤ 256"
 pub record Sizes (t : Table) : Type 0 where
   pub some_defect : 1 ≤ t.begin
-  pub begin_fits_lem : t.begin ≤ 256
+  pub begin_fits : t.begin ≤ 256
   pub defects_fit : t.defects ≤ t.begin
   pub blossoms_fit : t.begin + t.blossoms ≤ 256
 

@@ -50,7 +50,7 @@ pub record Paired (t : Table) (n peer : ℕ) : Type 0 where
   pub sibling : next t n ≡ peer
   pub another : peer ≢ n
   pub there : InPair (at t peer)
-  pub points_back_lem : next t peer ≡ n
+  pub points_back : next t peer ≡ n
   pub mirrored : (at t peer).link ≡ mirror (at t n).link
 
 -- ---- S4
