@@ -12,6 +12,7 @@ use table::Table;
 use table::numbers::number_of;
 
 // A defect inside x: x itself, as most often, or one whose number lies in x's stretch.
+#[tactic(auto, unfolding(crate::specs::Links::is_held))]
 pub fn touch_holds<'a>(t: &Table, lo: &'a [u16], hi: &'a [u16], x: Node, touch: Node) -> bool
     ensures { result ≡ is_held (table_of t.now) lo.now hi.now x.0 touch.0 }
 {
@@ -32,6 +33,7 @@ pub fn touch_holds<'a>(t: &Table, lo: &'a [u16], hi: &'a [u16], x: Node, touch: 
 }
 
 // S8 of a link with two touches.
+#[tactic(auto, unfolding(crate::specs::Links::touches_hold))]
 pub fn touches_hold<'a>(
     t: &Table,
     lo: &'a [u16],
@@ -58,6 +60,7 @@ pub fn ring_placed(t: &Table, n: Node, ring: Node) -> bool
     table::field::is_blossom(t, n)
 }
 
+#[tactic(auto, unfolding(crate::specs::Links::points_back))]
 fn points_back(t: &Table, n: Node, peer: Node) -> bool
     ensures { result ≡ points_back (table_of t.now) n.0 peer.0 }
 {
@@ -68,6 +71,7 @@ fn points_back(t: &Table, n: Node, peer: Node) -> bool
 }
 
 // Another matched node, which points back with the mirrored link. The smaller of the two has judged the link.
+#[tactic(auto, unfolding(crate::specs::Links::pair_holds))]
 pub fn pair_holds(t: &Table, n: Node, s: Slot) -> bool
     ensures { result ≡ pair_holds (table_of t.now) n.0 (slot_of s) }
 {

@@ -14,6 +14,7 @@ use slot::{Node, Slot};
 use table::Table;
 use table::numbers::number_of;
 
+#[tactic(auto, unfolding(crate::specs::States::inner_holds))]
 pub fn inner_holds<'a>(t: &Table, lo: &'a [u16], hi: &'a [u16], n: Node, s: Slot) -> bool
     ensures { result ≡ inner_holds (is_held (table_of t.now) lo.now hi.now) (is_numbered lo.now) n.0 (slot_of s) }
 {
@@ -33,6 +34,7 @@ pub fn inner_holds<'a>(t: &Table, lo: &'a [u16], hi: &'a [u16], n: Node, s: Slot
     touches_hold(t, lo, hi, n, next, link)
 }
 
+#[tactic(auto, unfolding(crate::specs::States::stay_holds))]
 pub fn stay_holds<'a>(t: &Table, lo: &'a [u16], hi: &'a [u16], n: Node, s: Slot) -> bool
     ensures { result ≡ stay_holds (table_of t.now) (is_held (table_of t.now) lo.now hi.now) n.0 (slot_of s) }
 {
@@ -56,6 +58,7 @@ pub fn stay_holds<'a>(t: &Table, lo: &'a [u16], hi: &'a [u16], n: Node, s: Slot)
     touches_hold(t, lo, hi, n, next, link)
 }
 
+#[tactic(auto, unfolding(crate::specs::States::grow_holds))]
 pub fn grow_holds<'a>(t: &Table, lo: &'a [u16], hi: &'a [u16], n: Node, s: Slot) -> bool
     ensures { result ≡ grow_holds (table_of t.now) (is_held (table_of t.now) lo.now hi.now) n.0 (slot_of s) }
 {
@@ -77,6 +80,7 @@ pub fn grow_holds<'a>(t: &Table, lo: &'a [u16], hi: &'a [u16], n: Node, s: Slot)
 }
 
 // Nothing is asked of the child: an outer node below a − node must be Grow, and so has no sibling.
+#[tactic(auto, unfolding(crate::specs::States::shrink_holds))]
 pub fn shrink_holds<'a>(t: &Table, lo: &'a [u16], hi: &'a [u16], n: Node, s: Slot) -> bool
     ensures { result ≡ shrink_holds (table_of t.now) (is_held (table_of t.now) lo.now hi.now) n.0 (slot_of s) }
 {
