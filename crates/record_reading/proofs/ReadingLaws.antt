@@ -4,12 +4,9 @@ use mathlib.Core.List.{List}
 use Prim.Native.Nat.{ℕ, ◌+◌, ◌≤◌, ◌<◌}
 use native.Mathlib.Omega.{arith}
 use lib.ListN.{length, take, drop}
-use mathlib.Core.Bool.{Bool, true, false, not}
-use borrow.Author.Tests.{not-true, not-false}
+use mathlib.Core.Bool.{Bool, true, false}
 use mathlib.Core.Logic.{◌⊎◌, inl, inr}
-use denote.Enum.Declared.{tag_of}
 use Rattle.record.specs.declared.kind.Kind.{Kind}
-use Rattle.record.specs.contracts.kind.Kind.{the_type}
 use Rattle.record.specs.declared.kind.Kind.TheVariants as K
 use Rattle.record.specs.declared.kind.Layout.{Layout}
 use Rattle.record.specs.Kinds.{widths, length_of, is_request, layout_of}
@@ -22,32 +19,20 @@ use Rattle.record.proofs.Read as steps
 
 -- ---- by which arm the reader leaves
 
--- the place of an answer's kind, or of an other kind, among the kinds
-abbrev AnswerPlace : ℕ → Type 0
-AnswerPlace x = (x ≡ 5) ⊎ ((x ≡ 6) ⊎ ((x ≡ 7) ⊎ ((x ≡ 8) ⊎ ((x ≡ 9) ⊎ ((x ≡ 10) ⊎ (x ≡ 11))))))
+-- the kind is an answer's, or an other one
+abbrev AnswerKind : Kind → Type 0
+AnswerKind k =
+    (k ≡ K.Speed)
+    ⊎ ((k ≡ K.Create) ⊎ ((k ≡ K.Expand) ⊎ ((k ≡ K.End) ⊎ ((k ≡ K.Pair) ⊎ ((k ≡ K.VirtualPair) ⊎ (k ≡ K.Other))))))
 
-past_requests : (x : ℕ) → AnswerPlace x → 4 < x
-past_requests x (inl e) = omega arith
-past_requests x (inr (inl e)) = omega arith
-past_requests x (inr (inr (inl e))) = omega arith
-past_requests x (inr (inr (inr (inl e)))) = omega arith
-past_requests x (inr (inr (inr (inr (inl e))))) = omega arith
-past_requests x (inr (inr (inr (inr (inr (inl e)))))) = omega arith
-past_requests x (inr (inr (inr (inr (inr (inr e)))))) = omega arith
-
-no_request : (k : Kind) (vs : List ℕ) (n : ℕ) → 4 < tag_of the_type k → bad ≡ asked k vs n
-no_request K.Conflict vs n h = absurd (omega arith)
-no_request K.VirtualConflict vs n h = absurd (omega arith)
-no_request K.Expansion vs n h = absurd (omega arith)
-no_request K.Reset vs n h = absurd (omega arith)
-no_request K.List vs n h = absurd (omega arith)
-no_request K.Speed vs n h = refl
-no_request K.Create vs n h = refl
-no_request K.Expand vs n h = refl
-no_request K.End vs n h = refl
-no_request K.Pair vs n h = refl
-no_request K.VirtualPair vs n h = refl
-no_request K.Other vs n h = refl
+no_request : (k : Kind) (vs : List ℕ) (n : ℕ) → AnswerKind k → bad ≡ asked k vs n
+no_request k vs n (inl e) = rw e
+no_request k vs n (inr (inl e)) = rw e
+no_request k vs n (inr (inr (inl e))) = rw e
+no_request k vs n (inr (inr (inr (inl e)))) = rw e
+no_request k vs n (inr (inr (inr (inr (inl e))))) = rw e
+no_request k vs n (inr (inr (inr (inr (inr (inl e)))))) = rw e
+no_request k vs n (inr (inr (inr (inr (inr (inr e)))))) = rw e
 
 -- ---- the reader's steps, with what it knows by then
 
@@ -66,12 +51,12 @@ module _ (l : List ℕ) (more : 4 ≤ length l) (n : ℕ) (e : n ≡ length_at l
     fitting : {b : Bool} → r ≡ b → steps.fitting l ≡ b
     fitting h = let f = sym o ∙ h in rw (layout, e) at f
 
-    pub read_length : not r ≡ true → bad ≡ read l
-    read_length h = steps.read_length l more w (fitting (not-true r h))
+    pub read_length : r ≡ false → bad ≡ read l
+    read_length h = steps.read_length l more w (fitting h)
 
-    module _ (h : not r ≡ false) where
+    module _ (h : r ≡ true) where
       fits : has_its_length y.length n l ≡ true
-      fits = sym o ∙ not-false r h
+      fits = sym o ∙ h
 
       -- the fields of a request stand on the tape
       pub fields_there : (k : Kind) → y.kind ≡ k → is_request k ≡ true → 2 + length_of k ≤ length l
@@ -83,9 +68,7 @@ module _ (l : List ℕ) (more : 4 ≤ length l) (n : ℕ) (e : n ≡ length_at l
       pub read_whole : (k : Kind) → y.kind ≡ k → asked k (decode (widths k) (drop 4 l)) (n + 2) ≡ read l
       read_whole k t =
           let g : n + 2 ≡ 2 + length_at l = omega arith in
-          rw (g, ← t, layout) (steps.read_whole l more w (fitting (not-false r h)))
+          rw (g, ← t, layout) (steps.read_whole l more w (fitting h))
 
-      pub read_answer : AnswerPlace (tag_of the_type y.kind) → bad ≡ read l
-      read_answer p =
-          no_request y.kind (decode (widths y.kind) (drop 4 l)) (n + 2) (past_requests (tag_of the_type y.kind) p)
-          ∙ read_whole y.kind refl
+      pub read_answer : AnswerKind y.kind → bad ≡ read l
+      read_answer p = no_request y.kind (decode (widths y.kind) (drop 4 l)) (n + 2) p ∙ read_whole y.kind refl
