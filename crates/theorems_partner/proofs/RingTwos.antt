@@ -43,6 +43,8 @@ two_second (later p) = inr (inr (two_second p))
 
 -- along a way the second of two is next to the first
 pub two_next : (next : ℕ → ℕ) {a c : ℕ} (cs : List ℕ) (n e : ℕ) → Way next n cs e → Two a c cs → next a ≡ c
+two_next next [] n e p q = elim q [ ]
+two_next next (x ∷ []) n e p q = elim q [ ]
 two_next next (x ∷ (y ∷ cs)) n e p now = p.1.0
 two_next next (x ∷ (y ∷ cs)) n e p (later q) = two_next next cs (next y) e p.1.1 q
 
@@ -66,6 +68,8 @@ module _ (t : Table) where
   Coupled k n a c = (link_in_twos k t n a ≡ (at t a).link) × (link_in_twos k t n c ≡ mirror (at t a).link)
 
   pub coupled : (k n e : ℕ) (cs : List ℕ) → Way (next t) n cs e → NoDup cs → length cs ≤ 2 * k → (a c : ℕ) → Two a c cs → Coupled k n a c
+  coupled k n e [] p o l a c q = elim q [ ]
+  coupled k n e (x ∷ []) p o l a c q = elim q [ ]
   coupled zero n e (x ∷ (y ∷ cs)) p o l a c q = absurd (omega arith)
   coupled (suc k) n e (x ∷ (y ∷ cs)) p o l a c now =
       rw p.0 (gives_first k a a refl, gives_second k a c (λ z. o.0 (inl (sym z))) (sym p.1.0))

@@ -128,6 +128,7 @@ module _ (d : ℕ) where
       other : d ∈ named_by (R.Pair q) → q.node.0 ≢ d → q.peer.0 ≡ d
       other (inl u) z = absurd (z (sym u))
       other (inr (inl u)) z = sym u
+      other (inr (inr m)) z = absurd m
 
   pub virtual_seen : (r : Record) (p : VirtualPair) → d ∈ named_by r → seen_from d r ≡ P.Virtual p → p.node.0 ≡ d
   virtual_seen (R.Speed n s) p m e = absurd m
@@ -136,3 +137,4 @@ module _ (d : ℕ) where
   virtual_seen (R.End n s) p m e = absurd m
   virtual_seen (R.Pair q) p m e = absurd (omega (arith, ap partner_kind e))
   virtual_seen (R.VirtualPair q) p (inl u) e = let g : q ≡ p = cc in rw (sym g) (sym u)
+  virtual_seen (R.VirtualPair q) p (inr m) e = absurd m
