@@ -7,6 +7,7 @@ use record::{Request, kind};
 use refusal::{Answer, Refusal, Side};
 
 // Writes a request at pos, and returns the position after it; without room for all of it, nothing, and pos.
+#[tactic(auto, unfolding(record::specs::Records::request_bytes))]
 fn put_request(out: &mut [u8], pos: usize, request: Request) -> usize
     ensures { out_of out.new result ≡ written (out_of out.old pos) (request_bytes request) }
 {
