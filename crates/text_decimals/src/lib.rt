@@ -41,6 +41,7 @@ pub fn write_decimal(out: &mut [u8], pos: usize, n: u64) -> usize
 }
 
 // The number that a word of digits stands for, where it is at most so large.
+#[tactic(auto, using(crate::proofs::Scan::stops_below, crate::proofs::Scan::stops_above))]
 pub fn read_decimal(word: &[u8], most: u32) -> Number
     ensures { result ≡ number_within most word.now }
 {
