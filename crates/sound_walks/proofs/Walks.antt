@@ -1,6 +1,6 @@
 -- A marking walk passes the nodes of the rules' walk: how many, and which marks it leaves.
 use Rattle.std.proofs.Common.{◌≡◌, ℕ, zero, suc, ◌+◌, ◌<◌, ◌≤◌, Bool, true, false, not, ◌&&◌, ◌||◌, eqb, List, length, set, replicate, refl, ap, ◌∙◌, arith, length-set, ne_eqb}
-use mathlib.Core.Bool.{or-false, or_assoc, and_false}
+use mathlib.Core.Bool.{or-false, or_assoc, and-false}
 use Rattle.lists.specs.Choice.{pick}
 use Rattle.slot.specs.Number.{none}
 use Rattle.rules.specs.Slots.{is_none}
@@ -50,7 +50,7 @@ module _ (along : ℕ → ℕ) (mine : ℕ → Bool) where
       by_cases (is_none a) (λ e. rw e (omega arith))
       (λ e. by_cases (mine a)
       (λ b. rw (e, b) (marking-count k (along a) (c + 1) (set l a 1) ∙ ap (λ (m : ℕ). pick (good k (along a)) m none) (omega arith)))
-      (λ b. rw (e, b, and_false)))
+      (λ b. rw (e, b, and-false)))
 
   pub marking-seen : (k a c : ℕ) (l : List ℕ) (j : ℕ) → good k a ≡ true → j < length l → marked (marking k along mine a c l).seen j ≡ (marked l j || is_in j (walk k along a))
   unfolding marking ends walk all_in is_in

@@ -42,6 +42,7 @@ fn walk_list(t: &Table, seen: &mut [u8], i: Node, from: Node) -> u16
     }
 }
 
+#[tactic(auto, unfolding(crate::specs::Lists::list_step))]
 pub fn list_step(t: &Table, seen: &mut [u8], i: Node) -> bool
     ensures { judged_of result seen.new ≡ list_step (table_of t.now) i.0 seen.old }
 {

@@ -51,6 +51,7 @@ fn note_way(t: &Table, deep: &mut [u16], n: Node, depth: u16)
 
 // Whether the way up from n comes to an end. A node without a parent is at the top, and its depth need not be remembered; most
 // often the parent's depth is known.
+#[tactic(auto, unfolding(crate::specs::Depths::depth_step))]
 pub fn depth_step(t: &Table, deep: &mut [u16], n: Node) -> bool
     ensures { judged_of result deep.new ≡ depth_step (table_of t.now) n.0 deep.old }
 {

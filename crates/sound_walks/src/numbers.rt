@@ -106,6 +106,7 @@ fn number_node(t: &Table, lo: &mut [u16], hi: &mut [u16], n: Node, k: u16, left:
     std::num::wrapping_add_u16(k, 1)
 }
 
+#[tactic(auto, unfolding(crate::specs::Numbers::outer_numbered))]
 fn number_outer(t: &Table, lo: &mut [u16], hi: &mut [u16], n: Node, k: u16) -> u16
     ensures { numbers_of lo.new hi.new result ≡ outer_numbered (table_of t.now) n.0 (numbers_of lo.old hi.old k) }
 {

@@ -9,6 +9,7 @@ use slot::Node;
 use table::{Table, marks};
 
 // Inner nodes stand on rings, and have numbers.
+#[tactic(auto, unfolding(crate::specs::Depths::way_step))]
 fn way_step(t: &Table, listed: &[u8], deep: &mut [u16], n: Node) -> bool
     ensures { judged_of result deep.new ≡ way_step (table_of t.now) listed.now n.0 deep.old }
 {
