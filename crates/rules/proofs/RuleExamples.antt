@@ -1,7 +1,7 @@
 -- Worked examples about single rules. Each pins something that the examples of 01 leave open, and what it says was compared with the
 -- original. That each of these requests is accepted, and what it leaves is sound, is computed in `theorems_examples/proofs/RulesApply`.
 use mathlib.Core.Path.{◌≡◌, refl}
-use mathlib.Core.List.{List, [], ◌∷◌, ◌++◌}
+use mathlib.Core.List.{[], ◌∷◌, ◌++◌}
 use Prim.Native.Nat.{ℕ}
 use Rattle.slot.specs.Number.{none}
 use Rattle.slot.specs.Slot.{Link}
