@@ -14,6 +14,7 @@ pub enum Next {
 
 // 01: "Before each record it stops, in this order". The room is what the output has left: 4,096 bytes for the answers and 8 for
 // the end record.
+#[tactic(auto, unfolding(crate::specs::Next::next_of))]
 pub fn what_next(rest: &[u8], left: u32, room: usize) -> Next
     ensures { result ≡ next_of rest.now left room }
 {

@@ -66,6 +66,7 @@ pub fn end_of(stop: u16) -> TurnEnd
 }
 
 // 01: "ends a bad tape by an end record 12". The position after it.
+#[tactic(auto, unfolding(record::specs::Writing::write_all))]
 pub fn close(out: &mut [u8], pos: usize, end: TurnEnd) -> usize
     ensures { out_of out.new result ≡ write_all (out_of out.old pos) (last_records end) }
 {
