@@ -5,7 +5,7 @@ use Prim.Native.Nat.{ℕ, suc, ◌+◌, ◌≤◌, ◌<◌}
 use native.Mathlib.Omega.{arith}
 use lib.Dec.{T, T_not}
 use Rattle.lists.specs.Choice.{pick}
-use Rattle.table.specs.Table.{Table, at, Full}
+use Rattle.table.specs.Table.{Table, Full}
 use Rattle.table.specs.Nodes.{outer, inner}
 use Rattle.table.specs.Climb.{inside}
 use Rattle.rules.specs.Slots.{up}

@@ -1,16 +1,12 @@
 -- Each node that an accepted request names is seen as an outer node.
 use mathlib.Core.Path.{◌≡◌}
 use mathlib.Core.Logic.{inl, inr}
-use mathlib.Core.List.{List}
 use Prim.Native.Nat.{ℕ}
 use lib.Dec.{T}
 use Rattle.slot.specs.State.{is_outer}
 use Rattle.table.specs.Table.{Table}
 use Rattle.table.specs.Nodes.{outer}
 use Rattle.refusal.specs.declared.Verdict.TheVariants as W
-use Rattle.record.specs.declared.request.Conflict.{Conflict}
-use Rattle.record.specs.declared.request.VirtualConflict.{VirtualConflict}
-use Rattle.record.specs.declared.request.Expansion.{Expansion}
 use Rattle.record.specs.declared.request.Request.{Request}
 use Rattle.record.specs.declared.request.Request.TheVariants as Q
 use Rattle.rules.specs.Trees.{seen}
