@@ -13,7 +13,6 @@ use Rattle.slot.specs.Number.{none}
 use Rattle.slot.specs.Slot.{Slot, new_node}
 use Rattle.table.specs.Table.{Table, at}
 use Rattle.table.specs.Nodes.{outer}
-use Rattle.table.specs.Climb.{inside}
 use Rattle.table.specs.declared.place.Place.TheVariants as P
 use Rattle.table.specs.Place.{in_tree, place}
 use Rattle.record.specs.declared.request.Conflict.{Conflict}

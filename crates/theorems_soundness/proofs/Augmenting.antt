@@ -16,7 +16,6 @@ use Rattle.rules.specs.Matching.{matched_to, temporary_match}
 use Rattle.theorems_soundness.specs.FactsOfNodes.{Paired, OuterChild}
 use Rattle.theorems_soundness.proofs.Reflect.{same_or_not}
 use Rattle.theorems_soundness.proofs.ReflectSlots.{stay_grow, stay_shrink}
-use Rattle.theorems_soundness.proofs.ChildLaws.{has_child}
 use Rattle.theorems_soundness.proofs.Past.{outer_below}
 use Rattle.theorems_soundness.specs.RuleFacts.{alone_free, Whole, RightLink, Below}
 use Rattle.theorems_soundness.proofs.Frames.{some_outer}

@@ -10,7 +10,7 @@ use lib.Dec.{T}
 use lib.ListN.{length}
 use Rattle.lists.specs.Choice.{pick}
 use Rattle.slot.specs.Number.{none}
-use Rattle.table.specs.Table.{Table, at, Full}
+use Rattle.table.specs.Table.{Table, Full}
 use Rattle.table.specs.Nodes.{outer}
 use Rattle.rules.specs.Slots.{is_some, up}
 use Rattle.rules.proofs.DefectCounts.{bit_most}

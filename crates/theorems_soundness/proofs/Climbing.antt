@@ -6,7 +6,7 @@ use Prim.Native.Nat.{ℕ, zero, suc, ◌+◌, ◌≤◌, ◌<◌}
 use native.Mathlib.Nat.{suc-add, zero-add}
 use native.Mathlib.Omega.{arith}
 use lib.Dec.{T, eqb, eqb→eq}
-use Rattle.table.specs.Table.{Table, at, Full}
+use Rattle.table.specs.Table.{Table, Full}
 use Rattle.table.specs.Nodes.{inner}
 use Rattle.table.specs.Climb.{inside, inside_within}
 use Rattle.rules.specs.Slots.{up}

@@ -12,7 +12,7 @@ use Rattle.slot.specs.Slot.{Slot, new_node}
 use Rattle.table.specs.Table.{Table, at, put, Full}
 use Rattle.table.proofs.TableLaws.{at-put-same, at-put_other, put_full}
 use Rattle.table.specs.Counts.{with_defects}
-use Rattle.table.specs.Nodes.{is_defect, present, outer}
+use Rattle.table.specs.Nodes.{is_defect, present}
 use Rattle.rules.specs.Act.{choose}
 use Rattle.rules.specs.Slots.{up, next}
 use Rattle.rules.specs.Trees.{is_unloaded, loaded, seen}

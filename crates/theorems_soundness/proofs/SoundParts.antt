@@ -6,7 +6,7 @@ use Prim.Native.Nat.{ℕ, ◌≤◌, ◌<◌}
 use native.Mathlib.Decide.{dec_lt}
 use native.Mathlib.Omega.{arith}
 use lib.Dec.{T}
-use Rattle.table.specs.Table.{Table, at, Full}
+use Rattle.table.specs.Table.{Table, Full}
 use Rattle.table.proofs.TableLaws.{at_out}
 use Rattle.table.specs.Nodes.{outer}
 use Rattle.rules.specs.declared.fault.Rule.{Rule}
