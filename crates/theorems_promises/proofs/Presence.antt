@@ -1,7 +1,7 @@
 -- Which defects are present after a request: on a sound table those before and those that it loads, and after a reset none.
 use mathlib.Core.Path.{◌≡◌, refl, ap, sym, ◌∙◌}
 use mathlib.Core.Logic.{inl, inr}
-use mathlib.Core.Bool.{Bool, true, false, not, ◌&&◌, ◌||◌, and_false, or-false}
+use mathlib.Core.Bool.{Bool, true, false, not, ◌&&◌, ◌||◌, and-false, or-false}
 use Prim.Native.Nat.{ℕ, ◌<◌}
 use native.Mathlib.Omega.{arith}
 use lib.Dec.{T, ltb}
@@ -119,7 +119,7 @@ same-loads q t none_named = record { begin = refl; still = λ n l p. p; new = λ
 -- ---- a table as made has no defects
 
 pub fresh-none : (begin n : ℕ) → is_present_defect (fresh begin) n ≡ false
-fresh-none begin n = rw (fresh_at begin n) (and_false (is_defect (fresh begin) n))
+fresh-none begin n = rw (fresh_at begin n) (and-false (is_defect (fresh begin) n))
 
 -- ---- by the verdict
 
