@@ -16,6 +16,7 @@ use sound_walks::{children, numbers, ways};
 use table::Table;
 
 // Each slot by itself (S1 to S4, S7 and S8), touches by numbers.
+#[tactic(auto, unfolding(crate::specs::Given::each_holds))]
 fn each_holds<'a>(
     t: &Table,
     lo: &'a [u16],
@@ -39,6 +40,7 @@ fn each_holds<'a>(
 }
 
 // Rings, whose insides get numbers (S6), then each slot by itself.
+#[tactic(auto, unfolding(crate::specs::Given::numbered_hold, crate::specs::Given::numbers_from))]
 fn numbered_hold(t: &Table, defects: u16, begin: u16, end: u16) -> bool
     ensures { result ≡ numbered_hold (table_of t.now) defects begin end }
 {
@@ -51,6 +53,7 @@ fn numbered_hold(t: &Table, defects: u16, begin: u16, end: u16) -> bool
 }
 
 // Child lists and ways up (S5, S7).
+#[tactic(auto, unfolding(crate::specs::Given::paths_hold, crate::specs::Given::given_pass))]
 fn paths_hold(t: &Table, defects: u16, begin: u16, end: u16) -> bool
     ensures { result ≡ paths_hold (table_of t.now) defects begin end }
 {

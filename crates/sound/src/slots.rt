@@ -34,6 +34,7 @@ pub fn sizes_hold(t: &Table) -> bool
 }
 
 // All that is asked of a slot that is given out, with the numbers of insides.
+#[tactic(auto, unfolding(crate::specs::OneSlot::slot_holds))]
 pub fn slot_holds<'a>(t: &Table, lo: &'a [u16], hi: &'a [u16], n: Node) -> bool
     ensures { result ≡ slot_holds (table_of t.now) (is_held (table_of t.now) lo.now hi.now) (is_numbered lo.now) n.0 }
 {
@@ -54,6 +55,7 @@ pub fn slot_holds<'a>(t: &Table, lo: &'a [u16], hi: &'a [u16], n: Node) -> bool
 }
 
 // An empty slot, which stores none throughout.
+#[tactic(auto, unfolding(crate::specs::OneSlot::is_vacant))]
 fn is_vacant(t: &Table, n: Node) -> bool
     ensures { result ≡ is_vacant (table_of t.now) n.0 }
 {
