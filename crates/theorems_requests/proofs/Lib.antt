@@ -41,3 +41,6 @@ pub mod Reordering
 pub mod AnyOrder
 pub mod SideChecks
 pub mod SidesNamed
+pub mod MadeCalls
+pub mod TestedCalls
+pub mod NoTestNeeded
