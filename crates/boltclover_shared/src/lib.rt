@@ -1,12 +1,16 @@
-// What the programs share: their arguments, what they say on standard error, and how they end. The script `boltclover` starts them.
+// What the programs share: their arguments, what they read and write, what they say on standard error, and how they end. The script
+// `boltclover` starts them.
 #![tactic(auto)]
 
-use libc::{STDERR_FILENO, STDIN_FILENO, STDOUT_FILENO};
-use text_decimals::Number;
+ghost use Rattle.std.specs.Prelude.{◌≡◌, ◌≤◌, length};
+ghost use Rattle.std.specs.Process.{exit_status};
+ghost use Rattle.boltclover_shared.specs.Status.{status_of};
 
-// A Rattle program has no exit status. It writes one to this descriptor, from which the script takes it; where nothing is open
-// there, it is written nowhere.
-const STATUS_FILENO: i32 = 3;
+use std::env::{Env, FillError};
+use std::io;
+use std::io::{Print, Read};
+use std::process::ExitCode;
+use text_decimals::Number;
 
 // How a program ends.
 #[derive(Clone, Copy)]
@@ -20,27 +24,44 @@ pub enum Ending {
     Misused,
 }
 
-pub fn end(ending: Ending) {
+// The exit status, which `main` returns.
+pub fn end(ending: Ending) -> ExitCode
+    ensures { exit_status result ≡ status_of ending }
+{
     match ending {
-        Ending::Well => io::write_all(STATUS_FILENO, b"0\n"),
-        Ending::Badly => io::write_all(STATUS_FILENO, b"1\n"),
-        Ending::Misused => io::write_all(STATUS_FILENO, b"2\n"),
-    };
+        Ending::Well => ExitCode::from(0),
+        Ending::Badly => ExitCode::from(1),
+        Ending::Misused => ExitCode::from(2),
+    }
+}
+
+// ---- arguments
+
+// The longest word that is read: a path has at most so many bytes.
+const LONGEST_WORD: usize = 4096;
+
+fn is_given(rt: &HostRuntime, i: usize) -> bool {
+    match rt.arg(i, &mut []) {
+        Err(FillError::NotPresent) => false,
+        _ => true,
+    }
 }
 
 // An argument as a number up to some limit.
-fn number_argument(i: usize, most: u32) -> Number {
-    let mut word = io::buffer();
-    let n = os::arg(i, &mut word);
-    text_decimals::read_decimal(&word[..n], most)
+fn number_argument(rt: &HostRuntime, i: usize, most: u32) -> Number {
+    let mut word = [0u8; LONGEST_WORD];
+    match rt.arg(i, &mut word) {
+        Ok(n) => text_decimals::read_decimal(&word[..n], most),
+        Err(_) => Number::Unreadable,
+    }
 }
 
 // begin: the first argument, the usual one where there is none, 0 where it is no number up to 256.
-pub fn begin(usual: u16) -> u16 {
-    if os::arg_count() < 2 {
+pub fn begin(rt: &HostRuntime, usual: u16) -> u16 {
+    if !is_given(rt, 1) {
         return usual;
     }
-    match number_argument(1, 256) {
+    match number_argument(rt, 1, 256) {
         Number::Is(number) => small(number),
         Number::Unreadable => 0,
     }
@@ -50,12 +71,17 @@ pub fn begin(usual: u16) -> u16 {
 // a place; 65,535, which is no defect, where it is no number.
 pub const FIRST_ASKED: usize = 3;
 
-pub fn asked_end() -> usize {
-    os::arg_count()
+pub fn asked_end(rt: &HostRuntime) -> usize {
+    for i in 0..usize::MAX {
+        if !is_given(rt, i) {
+            return i;
+        }
+    }
+    usize::MAX
 }
 
-pub fn asked(i: usize) -> u16 {
-    match number_argument(i, 65535) {
+pub fn asked(rt: &HostRuntime, i: usize) -> u16 {
+    match number_argument(rt, i, 65535) {
         Number::Is(number) => small(number),
         Number::Unreadable => 65535,
     }
@@ -68,59 +94,104 @@ fn small(number: u32) -> u16 {
     0
 }
 
-// What is read: the second argument names it for people.
-fn write_name() {
-    if os::arg_count() < 3 {
-        io::write_all(STDERR_FILENO, b"standard input");
-        return;
+// ---- standard error
+
+// Nobody can be told that standard error cannot be written.
+fn say(rt: &HostRuntime, message: &[u8]) {
+    let _ = rt.stderr().write_all(message);
+}
+
+// What is read: the second argument names it for people. A name may hold any bytes.
+fn write_name(rt: &HostRuntime) {
+    let mut name = [0u8; LONGEST_WORD];
+    match rt.arg(2, &mut name) {
+        Ok(n) => say(rt, &name[..n]),
+        Err(FillError::NotPresent) => say(rt, b"standard input"),
+        Err(FillError::TooLong) => {}
     }
-    let mut name = io::buffer();
-    let n = os::arg(2, &mut name);
-    io::write_all(STDERR_FILENO, &name[..n]);
 }
 
 // A line on standard error about what is read; the message has its line feed.
-pub fn complain(message: &[u8]) {
-    write_name();
-    io::write_all(STDERR_FILENO, b": ");
-    io::write_all(STDERR_FILENO, message);
+pub fn complain(rt: &HostRuntime, message: &[u8]) {
+    write_name(rt);
+    say(rt, b": ");
+    say(rt, message);
 }
 
 // The same with the first n bytes of a message.
-pub fn complain_first(message: &[u8], n: usize) {
+pub fn complain_first(rt: &HostRuntime, message: &[u8], n: usize) {
     if n <= message.len() {
-        complain(&message[0..n]);
+        complain(rt, &message[0..n]);
     }
 }
 
-// Writes all of the bytes to standard output, or says why it cannot.
-pub fn write_out(bytes: &[u8]) -> bool {
-    let is_written = io::write_all(STDOUT_FILENO, bytes);
-    if !is_written {
-        os::fail(b"standard output");
-    }
-    is_written
-}
-
-// The same for the first n bytes.
-pub fn write_first(bytes: &[u8], n: usize) -> bool {
-    if bytes.len() < n {
-        return false;
-    }
-    write_out(&bytes[0..n])
-}
-
-pub fn end_bad_begin() -> Ending {
-    io::write_all(STDERR_FILENO, b"refused 13: begin outside 1 to 256\n");
+pub fn end_bad_begin(rt: &HostRuntime) -> Ending {
+    say(rt, b"refused 13: begin outside 1 to 256\n");
     Ending::Misused
 }
 
+// ---- standard output
+
+// The system's words for an error, without the number that std adds to them.
+fn words_of(text: &str) -> &str {
+    match text.split_once(" (os error ") {
+        Some((words, _)) => words,
+        None => text,
+    }
+}
+
+fn complain_of_output(rt: &HostRuntime, error: io::Error) {
+    let _ = match format!(in rt.alloc(); "{error}") {
+        Ok(text) => {
+            let words = words_of(text.as_str());
+            eprintln!(rt; "standard output: {words}")
+        }
+        Err(_) => eprintln!(rt; "standard output: {error}"),
+    };
+}
+
+// Writes all of the bytes to standard output, or says why it cannot.
+pub fn write_out(rt: &HostRuntime, bytes: &[u8]) -> bool {
+    match rt.write_all(bytes) {
+        Ok(()) => true,
+        Err(error) => {
+            complain_of_output(rt, error);
+            false
+        }
+    }
+}
+
+// The same for the first n bytes.
+pub fn write_first(rt: &HostRuntime, bytes: &[u8], n: usize) -> bool {
+    if bytes.len() < n {
+        return false;
+    }
+    write_out(rt, &bytes[0..n])
+}
+
+// ---- standard input
+
+// Reads standard input until there is no more room or no more input, and returns how many bytes there are. A read that fails ends the
+// input.
+pub fn read_input(rt: &HostRuntime, bytes: &mut [u8]) -> usize
+    ensures { result ≤ length bytes.new }
+{
+    let mut done = 0;
+    while done < bytes.len() {
+        match rt.stdin().read(&mut bytes[done..]) {
+            Ok(0) | Err(_) => break,
+            Ok(n) => done += n,
+        }
+    }
+    done
+}
+
 // Reads standard input behind the first bytes, until there is no more room or no more input, and returns how many bytes there are.
-pub fn read_behind(bytes: &mut [u8], have: usize) -> usize {
+pub fn read_behind(rt: &HostRuntime, bytes: &mut [u8], have: usize) -> usize {
     if bytes.len() < have {
         return have;
     }
-    have + io::read_full(STDIN_FILENO, &mut bytes[have..])
+    have + read_input(rt, &mut bytes[have..])
 }
 
 // Moves the bytes from a place on to the start, as far as n, and returns how many they are.
