@@ -11,10 +11,13 @@ mod orders;
 mod stored;
 mod telling;
 
-ghost use Rattle.std.specs.Prelude.{◌≤◌, length};
-
-use libc::STDIN_FILENO;
+use std::io;
+use std::io::Read;
+use std::rt::Files;
 use table::Table;
+
+// No more is read of standard input or of a file, and a run has so much room for its answers.
+const ROOM: usize = 65536;
 
 // Runs a tape, and tells how many requests were handled.
 fn run(t: &mut Table, tape: &[u8], out: &mut [u8], allowance: u32) -> u32 {
@@ -36,78 +39,64 @@ fn run(t: &mut Table, tape: &[u8], out: &mut [u8], allowance: u32) -> u32 {
 }
 
 // The requests of a script on a fresh table, each by a run of its own; after the last come listings, up to 23 in all.
-fn in_order(t: &mut Table, out: &mut [u8], script: &[u8], order: usize)
-    requires { 65536 ≤ length out.old }
-{
+fn in_order(t: &mut Table, out: &mut [u8; ROOM], script: &[u8], order: usize) {
     primal::make(t, 128);
-    let mut k = 1;
-    while k < 24 {
+    for k in 1..24 {
         let i = orders::at(script, order, k);
         let from = i % 24 * orders::ROOM;
         let to = from + 4104;
         run(t, &letters::request(script, i), &mut out[from..to], 1);
-        k += 1;
     }
 }
 
-fn agrees(t: &Table, out: &[u8; 65536], script: &[u8], order: usize) -> bool {
+fn agrees(t: &Table, out: &[u8; ROOM], script: &[u8], order: usize) -> bool {
     let mut own = [0u16; table::layout::WORDS];
-    let mut own_out = io::large_buffer();
+    let mut own_out = [0u8; ROOM];
     in_order(&mut own, &mut own_out, script, order);
     orders::is_same(&own, t, &own_out, out)
 }
 
 // Order 0, in which the requests are written, is what the others are held to.
-fn in_orders(script: &[u8]) {
+fn in_orders(rt: &impl Print, script: &[u8]) -> io::Result<()> {
     let mut t = [0u16; table::layout::WORDS];
-    let mut out = io::large_buffer();
+    let mut out = [0u8; ROOM];
     in_order(&mut t, &mut out, script, 0);
     let orders = orders::count(script, &out);
-    let mut agreeing = 0;
-    let mut order = 0;
-    while order < orders {
-        let this = order;
-        order += 1;
-        if !agrees(&t, &out, script, this) {
-            continue;
-        }
-        agreeing += 1;
-    }
-    orders::report(agreeing, orders);
+    let agreeing = (0..orders)
+        .filter(|order| agrees(&t, &out, script, *order))
+        .count();
+    orders::report(rt, agreeing, orders)
 }
 
-fn replay(case: &[u8]) {
-    let mut tape = io::large_buffer();
-    let mut out = io::large_buffer();
+fn replay(rt: &(impl Print + Files + Alloc), case: &[u8]) -> io::Result<()> {
+    let mut out = [0u8; ROOM];
     let mut t = [0u16; table::layout::WORDS];
-    let n = stored::tape(case, &mut tape);
+    let tape = stored::tape(rt, case)?;
     primal::make(&mut t, stored::begin(case));
-    let handled = run(&mut t, &tape[..n], &mut out, 65536);
-    stored::report(case, handled, &out);
+    let handled = run(&mut t, tape.as_slice(), &mut out, 65536);
+    stored::report(rt, case, handled, &out)
 }
 
-fn case(case: &[u8]) {
+fn case(rt: &(impl Print + Files + Alloc), case: &[u8]) -> io::Result<()> {
     if crate::telling::is_script(case) {
-        in_orders(case);
-        return;
+        return in_orders(rt, case);
     }
-    replay(case);
+    replay(rt, case)
 }
 
-fn cases(text: &[u8])
-    requires { length text.now ≤ 65536 }
-{
+fn cases(rt: &(impl Print + Files + Alloc), text: &[u8]) -> io::Result<()> {
     let mut at = 0;
     while at < text.len() {
-        let from = crate::telling::skip(text, at);
-        let to = bytes::scan::find(text, from, text.len(), b'|');
-        case(&text[from..to]);
+        let from = telling::skip(rt, text, at)?;
+        let to = telling::find(text, from);
+        case(rt, &text[from..to])?;
         at = to + 1;
     }
+    Ok(())
 }
 
-fn main() {
-    let mut text = io::large_buffer();
-    let n = io::read_full(STDIN_FILENO, &mut text);
-    cases(&text[..n]);
+fn main(rt: HostRuntime) -> io::Result<()> {
+    let mut text = Vec::new(rt.alloc());
+    rt.reader().take(ROOM as u64).read_to_end(&mut text)?;
+    cases(&rt, text.as_slice())
 }

@@ -3,7 +3,7 @@
 ghost use Rattle.std.specs.Prelude.{◌≤◌};
 
 use crate::telling::told;
-use libc::STDOUT_FILENO;
+use std::io;
 use table::Table;
 
 // Where i goes when what stands at a and at b is exchanged.
@@ -23,12 +23,10 @@ pub fn at(script: &[u8], order: usize, k: usize) -> usize {
     let n = script.len() / 5;
     let mut i = k;
     let mut rest = order;
-    let mut last = 2;
-    while last < n {
+    for last in 2..n {
         let first = n - last;
         i = exchanged(i, first, first + rest % last);
         rest = rest / last;
-        last += 1;
     }
     i
 }
@@ -49,12 +47,10 @@ fn is_accepted(out: &[u8; 65536], from: usize) -> bool
 }
 
 fn are_accepted(out: &[u8; 65536]) -> bool {
-    let mut i = 1;
-    while i < 24 {
+    for i in 1..24 {
         if !is_accepted(out, i * ROOM) {
             return false;
         }
-        i += 1;
     }
     true
 }
@@ -73,27 +69,20 @@ pub fn count(script: &[u8], out: &[u8; 65536]) -> usize {
 
 // Whether two orders end in the same table, with the same answers to each request and the same listing.
 pub fn is_same(a: &Table, b: &Table, a_out: &[u8; 65536], b_out: &[u8; 65536]) -> bool {
-    let mut i = 0;
-    while i < 2819 {
-        if a[i] != b[i] {
-            return false;
-        }
-        i += 1;
-    }
-    check::same(a_out, b_out)
+    a == b && a_out == b_out
 }
 
-pub fn report(agreeing: usize, orders: usize) {
+pub fn report(rt: &impl Print, agreeing: usize, orders: usize) -> io::Result<()> {
     if orders == 0 {
-        io::write_all(STDOUT_FILENO, b"a request is refused");
-        return;
+        return print!(rt; "a request is refused");
     }
     told(
+        rt,
         agreeing,
-        b" of ",
+        " of ",
         orders,
         agreeing == orders,
-        b" orders: same",
-        b" orders: different",
-    );
+        " orders: same",
+        " orders: different",
+    )
 }

@@ -1,21 +1,32 @@
 // The cases of the program: what each says, and what is printed of it.
+ghost use Rattle.std.specs.Prelude.{◌≤◌, length, IfOk};
 
-ghost use Rattle.std.specs.Prelude.{◌≤◌, length};
+use std::io;
 
-use libc::STDOUT_FILENO;
-
-// Writes out what stands before the next case, and tells where that starts.
-pub fn skip(text: &[u8], from: usize) -> usize
+// Where the next | stands from a place on; where there is none, the text's end.
+pub fn find(text: &[u8], from: usize) -> usize
     requires { from ≤ length text.now }
     ensures lower_bound { from ≤ result }
     ensures upper_bound { result ≤ length text.now }
 {
-    let to = bytes::scan::find(text, from, text.len(), b'|');
-    io::write_all(STDOUT_FILENO, &text[from..to]);
-    if to == text.len() {
-        return to;
+    match text[from..].iter().position(|byte| *byte == b'|') {
+        Some(before) => from + before,
+        None => text.len(),
     }
-    to + 1
+}
+
+// Writes out what stands before the next case, and tells where that starts.
+pub fn skip(rt: &impl Print, text: &[u8], from: usize) -> io::Result<usize>
+    requires { from ≤ length text.now }
+    ensures lower_bound { IfOk result (λ start. from ≤ start) }
+    ensures upper_bound { IfOk result (λ start. start ≤ length text.now) }
+{
+    let to = find(text, from);
+    rt.write_all(&text[from..to])?;
+    if to == text.len() {
+        return Ok(to);
+    }
+    Ok(to + 1)
 }
 
 // Whether a case is a script, which starts with a digit and a dot, and not a stored tape.
@@ -27,13 +38,15 @@ pub fn is_script(case: &[u8]) -> bool {
 }
 
 // Writes two numbers with words between them, and then how it went.
-pub fn told(n: usize, words: &[u8], m: usize, is_good: bool, good: &[u8], bad: &[u8]) {
-    io::print_decimal(STDOUT_FILENO, n as u64);
-    io::write_all(STDOUT_FILENO, words);
-    io::print_decimal(STDOUT_FILENO, m as u64);
-    if is_good {
-        io::write_all(STDOUT_FILENO, good);
-        return;
-    }
-    io::write_all(STDOUT_FILENO, bad);
+pub fn told(
+    rt: &impl Print,
+    n: usize,
+    words: &str,
+    m: usize,
+    is_good: bool,
+    good: &str,
+    bad: &str,
+) -> io::Result<()> {
+    let verdict = if is_good { good } else { bad };
+    print!(rt; "{n}{words}{m}{verdict}")
 }
