@@ -2,7 +2,7 @@
 -- comes, but for the three that 01 gives the refusal of: (h), (i) with 4,095 bytes, and the last of (j).
 use mathlib.Core.Path.{◌≡◌, refl}
 use mathlib.Core.Bool.{true}
-use mathlib.Core.List.{List, [], ◌∷◌}
+use mathlib.Core.List.{[], ◌∷◌}
 use Prim.Native.Nat.{ℕ}
 use Rattle.slot.specs.declared.state.State.TheVariants as S
 use Rattle.slot.specs.Number.{none}
