@@ -1,7 +1,7 @@
 -- The ring of S6 by the walk around it and the marks that it leaves.
 use mathlib.Core.Path.{◌≡◌, refl, sym, ap, subst, ◌∙◌}
 use mathlib.Core.List.{List, [], ◌∷◌}
-use mathlib.Core.Bool.{Bool, true, false, ◌&&◌, not, and_false, and-true, and_assoc}
+use mathlib.Core.Bool.{Bool, true, false, ◌&&◌, not, and-false, and-true, and_assoc}
 use Prim.Native.Nat.{ℕ, ◌<◌}
 use native.Mathlib.Nat.{zero-add}
 use lib.Dec.{eqb}
@@ -28,7 +28,7 @@ unfolding all_in
 all_of_both p q [] = refl
 all_of_both p q (x ∷ xs) =
     by_cases (p x)
-    (λ e. by_cases (q x) (λ f. rw (e, f) (all_of_both p q xs)) (λ f. rw (e, f, and_false)))
+    (λ e. by_cases (q x) (λ f. rw (e, f) (all_of_both p q xs)) (λ f. rw (e, f, and-false)))
     (λ e. rw e)
 
 regrouped : (a b c d e f : Bool) → (a && b && c && d && e && f) ≡ (a && (b && c) && d && (e && f))
@@ -89,7 +89,7 @@ module _ (t : Table) (b : ℕ) where
       pub ring_even : is_odd_ring c ≡ false → false ≡ ring_holds t b
       ring_even h =
           let o : is_odd_ring (length (ring_of t b)) ≡ false = ap is_odd_ring (sym (count-length is_fine)) ∙ h in
-          sym (ring_tests ∙ rw (o, and_false))
+          sym (ring_tests ∙ rw (o, and-false))
 
       pub ring_whole : (r : Bool) → is_odd_ring c ≡ true → r ≡ all_from (ring_listed t l b) 256 0 → r ≡ ring_holds t b
       ring_whole r h q =

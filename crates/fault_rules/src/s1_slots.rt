@@ -20,6 +20,7 @@ fn is_given(t: &Table, n: Node) -> bool
     either(n.0 < defects, made)
 }
 
+#[tactic(auto, unfolding(rules::specs::Sound::s1))]
 pub fn holds(t: &Table, n: Node) -> bool
     ensures { result ≡ s1 (table_of t.now) n.0 }
 {

@@ -14,6 +14,7 @@ pub fn names_present(t: &Table, n: Node) -> bool
     implies(n.0 != number::NO_NODE, present)
 }
 
+#[tactic(auto, unfolding(rules::specs::Sound::s2))]
 pub fn holds(t: &Table, n: Node) -> bool
     ensures { result ≡ s2 (table_of t.now) n.0 }
 {

@@ -75,6 +75,7 @@ fn is_paired(t: &Table, n: Node) -> bool
     both(pointing, same)
 }
 
+#[tactic(auto, unfolding(rules::specs::Sound::s3))]
 pub fn holds(t: &Table, n: Node) -> bool
     ensures { result ≡ s3 (table_of t.now) n.0 }
 {

@@ -53,6 +53,7 @@ fn is_plus(t: &Table, s: Slot) -> bool
     both(alone, shrinks)
 }
 
+#[tactic(auto, unfolding(rules::specs::Sound::s4))]
 pub fn holds(t: &Table, n: Node) -> bool
     ensures { result ≡ s4 (table_of t.now) n.0 }
 {

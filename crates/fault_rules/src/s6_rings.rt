@@ -100,6 +100,7 @@ fn ring_holds(t: &Table, b: Node) -> bool
     all_on_ring(t, &seen, b)
 }
 
+#[tactic(auto, unfolding(crate::specs::Walked::ring_fits))]
 pub fn ring_fits(t: &Table, n: Node) -> bool
     ensures { result ≡ ring_fits (table_of t.now) n.0 }
 {
@@ -122,6 +123,7 @@ fn inner_fits(t: &Table, n: Node) -> bool
     implies(inner, childless)
 }
 
+#[tactic(auto, unfolding(rules::specs::Sound::s6, crate::specs::Walked::ring_fits))]
 pub fn holds(t: &Table, n: Node) -> bool
     ensures { result ≡ s6 (table_of t.now) n.0 }
 {

@@ -26,6 +26,7 @@ fn way_ends(t: &Table, n: Node) -> bool
     }
 }
 
+#[tactic(auto, unfolding(rules::specs::Sound::s7))]
 pub fn holds(t: &Table, n: Node) -> bool
     ensures { result ≡ s7 (table_of t.now) n.0 }
 {

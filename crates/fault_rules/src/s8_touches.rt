@@ -27,6 +27,7 @@ pub fn is_defect_inside(t: &Table, x: Node, n: Node) -> bool
     both(n.0 < begin, inside)
 }
 
+#[tactic(auto, unfolding(rules::specs::Sound::s8))]
 pub fn holds(t: &Table, n: Node) -> bool
     ensures { result ≡ s8 (table_of t.now) n.0 }
 {
