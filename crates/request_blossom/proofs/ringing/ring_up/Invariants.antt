@@ -1,0 +1,10 @@
+use Rattle.std.proofs.Common.{◌≡◌}
+use Rattle.table.specs.Words.{table_of}
+use Rattle.rules.specs.Blossom.{ring_up}
+use Rattle.request_blossom.proofs.ringing.ring_up.Given as goal
+
+abbrev pub invariant-loop-left : goal.invariant-loop-left
+invariant-loop-left l = ring_up l.left l.b.0 l.m.0 l.here.0 (table_of l.t) ≡ ring_up 256 l.b.0 l.m.0 l.fn.n.0 (table_of l.initial.t)
+
+abbrev pub decreases-loop-left : goal.decreases-loop-left
+decreases-loop-left l = l.left
