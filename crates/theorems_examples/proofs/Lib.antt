@@ -8,6 +8,7 @@ pub mod FaultWalkExamples
 pub mod RunExamples
 pub mod TurnExamples
 pub mod NamedExamples
+pub mod ListingTestExamples
 pub mod PartnerExamples
 pub mod OrderExamples
 pub mod MostCommands
