@@ -82,7 +82,7 @@ module _ (t : Table) (full : Full t) (rest : Rest t) where
 
     -- from z, inside x but not on the way, the climb comes to y
     pub record Beside (x z y : ℕ) : Type 0 where
-      pub is_inner_lem : T (inner t y)
+      pub is_inner : T (inner t y)
       pub off : ¬ Inside t y d
       pub on : Inside t (up t y) d
       pub holds : Inside t y z
@@ -95,12 +95,12 @@ module _ (t : Table) (full : Full t) (rest : Rest t) where
         elim (inside_or_not t full rest (up t z) d) [
           | inl on ↦
               rw (beside_here t (way_of t d) z k (test_true (is_noted (way_of t d) (up t z)) (on_way (up t z) (rest.inners z p.0).parent.blossom on)))
-              (record { is_inner_lem = p.0; off = n; on = on; holds = inside_self t z; within = record { steps = j; climb = p.1 } })
+              (record { is_inner = p.0; off = n; on = on; holds = inside_self t z; within = record { steps = j; climb = p.1 } })
           | inr off ↦
               let r = beside j k x (up t z) p.1 h off (omega arith) in
               rw (beside_above t (way_of t d) z k (test_false (is_noted (way_of t d) (up t z)) (off_way (up t z) (inner_parent_below t full rest z p.0) off)))
               (record {
-                is_inner_lem = r.is_inner;
+                is_inner = r.is_inner;
                 off = r.off;
                 on = r.on;
                 holds = inside-join t _ (up t z) z (inside_ring_node t (up t z) z (p.0, refl)) r.holds;
