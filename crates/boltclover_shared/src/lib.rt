@@ -8,7 +8,7 @@ ghost use Rattle.boltclover_shared.specs.Status.{status_of};
 
 use std::env::{Env, FillError};
 use std::io;
-use std::io::{Print, Read};
+use std::io::{ErrorKind, Print, Read};
 use std::process::ExitCode;
 use text_decimals::Number;
 
@@ -150,12 +150,15 @@ fn complain_of_output(rt: &HostRuntime, error: io::Error) {
     };
 }
 
-// Writes all of the bytes to standard output, or says why it cannot.
+// Writes all of the bytes to standard output, or says why it cannot: but for a reader that has stopped, as `head` does, which is no
+// fault to tell of.
 pub fn write_out(rt: &HostRuntime, bytes: &[u8]) -> bool {
     match rt.write_all(bytes) {
         Ok(()) => true,
         Err(error) => {
-            complain_of_output(rt, error);
+            if error.kind() != ErrorKind::BrokenPipe {
+                complain_of_output(rt, error);
+            }
             false
         }
     }

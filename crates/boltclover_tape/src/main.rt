@@ -6,6 +6,7 @@ mod lines;
 mod turns;
 
 use boltclover_shared::Ending;
+use std::process::ExitCode;
 use turns::Count;
 
 fn write_count(line: &mut [u8], count: Count) -> usize {
@@ -17,18 +18,18 @@ fn write_count(line: &mut [u8], count: Count) -> usize {
     )
 }
 
-fn end_bad_text(count: Count) -> Ending {
-    let mut space = io::buffer();
+fn end_bad_text(rt: &HostRuntime, count: Count) -> Ending {
+    let mut space = [0u8; 4096];
     let line: &mut [u8] = &mut space;
     let n = write_count(line, count);
-    boltclover_shared::complain_first(line, n);
+    boltclover_shared::complain_first(rt, line, n);
     Ending::Badly
 }
 
-fn make_tape() -> Ending {
-    let count = turns::read_all();
+fn make_tape(rt: &HostRuntime) -> Ending {
+    let count = turns::read_all(rt);
     if 0 < count.bad {
-        return end_bad_text(count);
+        return end_bad_text(rt, count);
     }
     if !count.is_written {
         return Ending::Badly;
@@ -36,6 +37,6 @@ fn make_tape() -> Ending {
     Ending::Well
 }
 
-fn main() {
-    boltclover_shared::end(make_tape());
+fn main(rt: HostRuntime) -> ExitCode {
+    boltclover_shared::end(make_tape(&rt))
 }

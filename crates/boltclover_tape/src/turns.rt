@@ -1,7 +1,9 @@
 // A text of any length, read in turns of 65,536 bytes. A request's line is longer than its record, so the tape of a turn has room in
 // as many bytes.
 use crate::lines;
-use libc::STDIN_FILENO;
+
+// The bytes of a turn.
+const ROOM: usize = 65536;
 
 // What was read so far: lines, and how many of them are bad; and whether the tape could be written.
 #[derive(Clone, Copy)]
@@ -22,32 +24,32 @@ struct Turn {
 
 // No text has so many lines that the sum would wrap.
 fn one_more(n: u64) -> u64 {
-    std::num::wrapping_add_u64(n, 1)
+    n.wrapping_add(1)
 }
 
 // Reads a line at a position of the tape.
-fn read_at(line: &[u8], number: u64, tape: &mut [u8], pos: usize) -> usize {
+fn read_at(rt: &HostRuntime, line: &[u8], number: u64, tape: &mut [u8], pos: usize) -> usize {
     if tape.len() < pos {
         return lines::BAD;
     }
-    lines::read(line, number, &mut tape[pos..])
+    lines::read(rt, line, number, &mut tape[pos..])
 }
 
 // While the text goes on, what follows the last line feed is left for the next turn.
-fn read_lines(text: &[u8], is_last: bool, tape: &mut [u8], count: Count) -> Turn {
+fn read_lines(rt: &HostRuntime, text: &[u8], is_last: bool, tape: &mut [u8], count: Count) -> Turn {
     let mut at: usize = 0;
     let mut pos: usize = 0;
     let mut number = count.lines;
     let mut bad = count.bad;
     while at < text.len() {
-        let end = bytes::scan::find(text, at, text.len(), b'\n');
+        let end = text::next(text, at, b'\n', true);
         if end == text.len() {
             if !is_last {
                 break;
             }
         }
         number = one_more(number);
-        let size = read_at(&text[at..end], number, tape, pos);
+        let size = read_at(rt, &text[at..end], number, tape, pos);
         at = end + 1;
         if size == lines::BAD {
             bad = one_more(bad);
@@ -67,7 +69,7 @@ fn read_lines(text: &[u8], is_last: bool, tape: &mut [u8], count: Count) -> Turn
     }
 }
 
-fn read_turn(text: &[u8], n: usize, tape: &mut [u8], count: Count) -> Turn {
+fn read_turn(rt: &HostRuntime, text: &[u8], n: usize, tape: &mut [u8], count: Count) -> Turn {
     if text.len() < n {
         return Turn {
             lines: count.lines,
@@ -76,15 +78,15 @@ fn read_turn(text: &[u8], n: usize, tape: &mut [u8], count: Count) -> Turn {
             made: 0,
         };
     }
-    read_lines(&text[0..n], n < text.len(), tape, count)
+    read_lines(rt, &text[0..n], n < text.len(), tape, count)
 }
 
 // A tape with a bad line is written no further.
-fn write_made(tape: &[u8], turn: Turn) -> bool {
+fn write_made(rt: &HostRuntime, tape: &[u8], turn: Turn) -> bool {
     if 0 < turn.bad {
         return true;
     }
-    boltclover_shared::write_first(tape, turn.made)
+    boltclover_shared::write_first(rt, tape, turn.made)
 }
 
 // The place of the first line feed among the first n bytes; or n.
@@ -92,14 +94,13 @@ fn line_end(text: &[u8], n: usize) -> usize {
     if text.len() < n {
         return n;
     }
-    bytes::scan::find(text, 0, n, b'\n')
+    text::next(&text[..n], 0, b'\n', true)
 }
 
 // Passes over the rest of a line that is too long. What was read behind it is moved to the start.
-fn pass_line(text: &mut [u8]) -> usize {
-    let mut turns = u64::MAX;
-    while 0 < turns {
-        let n = io::read_full(STDIN_FILENO, text);
+fn pass_line(rt: &HostRuntime, text: &mut [u8]) -> usize {
+    for _ in 0..u64::MAX {
+        let n = boltclover_shared::read_input(rt, text);
         let end = line_end(text, n);
         if end < n {
             return boltclover_shared::keep_rest(text, end + 1, n);
@@ -107,21 +108,20 @@ fn pass_line(text: &mut [u8]) -> usize {
         if n < text.len() {
             return 0;
         }
-        turns -= 1;
     }
     0
 }
 
-fn pass_long_line(text: &mut [u8], number: u64) -> usize {
-    lines::complain_of_length(number);
-    pass_line(text)
+fn pass_long_line(rt: &HostRuntime, text: &mut [u8], number: u64) -> usize {
+    lines::complain_of_length(rt, number);
+    pass_line(rt, text)
 }
 
-// A proved loop has to end, and nothing says that a text does: the turns are counted down from a number that no text uses up.
-pub fn read_all() -> Count {
-    let mut text_space = io::large_buffer();
+// A proved loop has to end, and nothing says that a text does: no text uses up so many turns.
+pub fn read_all(rt: &HostRuntime) -> Count {
+    let mut text_space = [0u8; ROOM];
     let text: &mut [u8] = &mut text_space;
-    let mut tape_space = io::large_buffer();
+    let mut tape_space = [0u8; ROOM];
     let tape: &mut [u8] = &mut tape_space;
     let mut have: usize = 0;
     let mut count = Count {
@@ -129,14 +129,13 @@ pub fn read_all() -> Count {
         bad: 0,
         is_written: true,
     };
-    let mut turns = u64::MAX;
-    while 0 < turns {
-        let n = boltclover_shared::read_behind(text, have);
-        let turn = read_turn(text, n, tape, count);
+    for _ in 0..u64::MAX {
+        let n = boltclover_shared::read_behind(rt, text, have);
+        let turn = read_turn(rt, text, n, tape, count);
         count = Count {
             lines: turn.lines,
             bad: turn.bad,
-            is_written: write_made(tape, turn),
+            is_written: write_made(rt, tape, turn),
         };
         if !count.is_written {
             return count;
@@ -150,11 +149,10 @@ pub fn read_all() -> Count {
                 bad: one_more(turn.bad),
                 is_written: true,
             };
-            have = pass_long_line(text, count.lines);
+            have = pass_long_line(rt, text, count.lines);
         } else {
             have = boltclover_shared::keep_rest(text, turn.used, n);
         }
-        turns -= 1;
     }
     count
 }

@@ -14,6 +14,6 @@ pub mod writing;
 pub use faults::write_fault;
 pub use fields::narrow_at;
 pub use line::{Fault, Line, read_line};
-pub use pieces::nth;
+pub use pieces::{next, nth};
 pub use reasons::{write_bad_record, write_numbers, write_reason};
 pub use writing::{write_form, write_named, write_records};

@@ -3,7 +3,8 @@ ghost use Rattle.std.specs.Prelude.{◌≤◌, length};
 
 // The first place, from this one on, that has the byte, or has another; or the text's end.
 pub fn next(text: &[u8], at: usize, byte: u8, has: bool) -> usize
-    ensures { result ≤ length text.now }
+    ensures within { result ≤ length text.now }
+    ensures behind { at ≤ length text.now → at ≤ result }
 {
     let mut i = at;
     while i < text.len() {
