@@ -17,7 +17,7 @@ use Rattle.request_expansion.proofs.AttachingSteps.{run_true, run_false}
 -- ---- along the ring
 
 -- what is counted already and what is left
-pub all_passed : (c d e : ℕ) → d ≡ 0 → c + d ≡ 0 + e → c ≡ e
+pub all_passed : (c d e : ℕ) → d ≡ 0 → c + d ≡ e → c ≡ e
 all_passed c d e p q = omega arith
 
 pub one_passed : (c d d' e : ℕ) → d' + 1 ≡ d → c + d ≡ e → c + 1 + d' ≡ e
