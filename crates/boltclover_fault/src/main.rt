@@ -18,57 +18,56 @@ mod words;
 
 use boltclover_shared::Ending;
 use rules::fault::Fault;
+use std::process::ExitCode;
 use table::Table;
 use table::layout::WORDS;
 
 fn load(t: &mut Table, bytes: &[u8]) {
     let words: &mut [u16] = t;
-    let mut i = 0;
-    while i < words.len() {
+    for i in 0..words.len() {
         words[i] = text::narrow_at(bytes, 2 * i);
-        i += 1;
     }
 }
 
-fn tell(t: &Table, bytes: &[u8]) -> Ending {
+fn tell(rt: &HostRuntime, t: &Table, bytes: &[u8]) -> Ending {
     match primal::fault(t) {
-        Fault::Nowhere => printing::sound(),
-        Fault::At(rule, slot) => printing::fault(t, bytes, rule, slot),
+        Fault::Nowhere => printing::sound(rt),
+        Fault::At(rule, slot) => printing::fault(rt, t, bytes, rule, slot),
     }
 }
 
-fn tell_of(bytes: &[u8]) -> Ending {
+fn tell_of(rt: &HostRuntime, bytes: &[u8]) -> Ending {
     let mut table = [0u16; WORDS];
     load(&mut table, bytes);
-    tell(&table, bytes)
+    tell(rt, &table, bytes)
 }
 
-fn no_table(length: usize, is_more: bool) -> Ending {
-    let mut space = io::buffer();
+fn no_table(rt: &HostRuntime, length: usize, is_more: bool) -> Ending {
+    let mut space = [0u8; 4096];
     let line: &mut [u8] = &mut space;
     let n = printing::write_no_table(line, length, is_more);
-    boltclover_shared::complain_first(line, n);
+    boltclover_shared::complain_first(rt, line, n);
     Ending::Misused
 }
 
 // Of what was read the first n bytes are input.
-fn tell_read(read: &[u8], n: usize) -> Ending {
+fn tell_read(rt: &HostRuntime, read: &[u8], n: usize) -> Ending {
     if n != printing::TABLE_BYTES {
-        return no_table(n, n == read.len());
+        return no_table(rt, n, n == read.len());
     }
     if read.len() < n {
-        return no_table(n, false);
+        return no_table(rt, n, false);
     }
-    tell_of(&read[0..n])
+    tell_of(rt, &read[0..n])
 }
 
-fn tell_input() -> Ending {
-    let mut space = io::large_buffer();
+fn tell_input(rt: &HostRuntime) -> Ending {
+    let mut space = [0u8; 65536];
     let input: &mut [u8] = &mut space;
-    let n = boltclover_shared::read_behind(input, 0);
-    tell_read(input, n)
+    let n = boltclover_shared::read_behind(rt, input, 0);
+    tell_read(rt, input, n)
 }
 
-fn main() {
-    boltclover_shared::end(tell_input());
+fn main(rt: HostRuntime) -> ExitCode {
+    boltclover_shared::end(tell_input(&rt))
 }

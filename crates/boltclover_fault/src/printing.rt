@@ -23,8 +23,8 @@ fn ending(is_written: bool, ending: Ending) -> Ending {
     Ending::Badly
 }
 
-pub fn sound() -> Ending {
-    ending(boltclover_shared::write_out(b"sound\n"), Ending::Well)
+pub fn sound(rt: &HostRuntime) -> Ending {
+    ending(boltclover_shared::write_out(rt, b"sound\n"), Ending::Well)
 }
 
 // What was read has another length than a table, or more bytes than were looked at.
@@ -94,7 +94,7 @@ fn wrong(t: &Table, rule: Rule, n: Node) -> Wrong {
     }
 }
 
-pub fn fault(t: &Table, bytes: &[u8], rule: Rule, n: Node) -> Ending {
+pub fn fault(rt: &HostRuntime, t: &Table, bytes: &[u8], rule: Rule, n: Node) -> Ending {
     let mut space = [0u8; 2048];
     let out: &mut [u8] = &mut space;
     let number = rules::fault::number(rule);
@@ -107,5 +107,5 @@ pub fn fault(t: &Table, bytes: &[u8], rule: Rule, n: Node) -> Ending {
     let f = write_slot(out, e, t, bytes, n);
     let g = write_other(out, f, t, bytes, n, wrong.other);
     let h = write_sizes(out, g, t);
-    ending(boltclover_shared::write_first(out, h), Ending::Badly)
+    ending(boltclover_shared::write_first(rt, out, h), Ending::Badly)
 }

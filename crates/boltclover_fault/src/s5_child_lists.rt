@@ -16,8 +16,7 @@ fn wrong_child(t: &Table, child: Node) -> Wrong {
 
 fn wrong_list(t: &Table, n: Node) -> Wrong {
     let mut here = table::field::first_child(t, n);
-    let mut left: u16 = 256;
-    while 0 < left {
+    for _ in 0..256 {
         if here.0 == number::NO_NODE {
             return words::nothing();
         }
@@ -25,7 +24,6 @@ fn wrong_list(t: &Table, n: Node) -> Wrong {
             return wrong_child(t, here);
         }
         here = table::field::sibling(t, here);
-        left -= 1;
     }
     words::of_slot(words::LIST_ENDLESS, here, 0, 0)
 }

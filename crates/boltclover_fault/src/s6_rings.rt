@@ -17,8 +17,7 @@ fn wrong_ring_node(t: &Table, n: Node) -> Wrong {
 // Where the way round the ring goes wrong.
 fn wrong_way_round(t: &Table, b: Node, first: Node) -> Wrong {
     let mut here = first;
-    let mut left: u16 = 256;
-    while 0 < left {
+    for _ in 0..256 {
         if !s6_rings::is_inner_child(t, b, here) {
             return wrong_ring_node(t, here);
         }
@@ -27,7 +26,6 @@ fn wrong_way_round(t: &Table, b: Node, first: Node) -> Wrong {
             return words::of_slot(words::RING_ENDS, here, 0, 0);
         }
         here = after;
-        left -= 1;
     }
     words::of_slot(words::RING_ENDLESS, first, 0, 0)
 }

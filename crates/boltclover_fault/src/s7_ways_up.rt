@@ -8,10 +8,8 @@ use table::Table;
 // on a circle + and − nodes stand by turns.
 fn far_up(t: &Table, n: Node) -> Node {
     let mut here = n;
-    let mut left: u16 = 255;
-    while 0 < left {
+    for _ in 0..255 {
         here = table::field::parent(t, here);
-        left -= 1;
     }
     here
 }

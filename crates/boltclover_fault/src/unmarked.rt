@@ -17,12 +17,10 @@ fn is_missing(t: &Table, parent: Node, seen: &[u8], n: Node, inner: bool) -> boo
 
 // None where every such node was come to.
 pub fn first_unmarked(t: &Table, parent: Node, seen: &[u8], inner: bool) -> Node {
-    let mut i: u16 = 0;
-    while i < 256 {
+    for i in 0..256 {
         if is_missing(t, parent, seen, Node(i), inner) {
             return Node(i);
         }
-        i += 1;
     }
     Node(number::NO_NODE)
 }

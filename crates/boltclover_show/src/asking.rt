@@ -57,28 +57,25 @@ fn is_refused(answer: Partner) -> bool {
 }
 
 // Whether it was answered, and the answer could be written.
-fn ask(t: &Table, d: Node) -> bool {
-    let mut space = io::buffer();
+fn ask(rt: &HostRuntime, t: &Table, d: Node) -> bool {
+    let mut space = [0u8; 4096];
     let lines: &mut [u8] = &mut space;
     let p = text::partner::write_question(lines, 0, d.0);
     let answer = primal::partner(t, d);
     let n = write_partner(lines, p, t, d, answer);
-    if !boltclover_shared::write_first(lines, n) {
+    if !boltclover_shared::write_first(rt, lines, n) {
         return false;
     }
     !is_refused(answer)
 }
 
 // Each defect that the arguments name, after a tape that ended so.
-pub fn ask_all(t: &Table, ending: Ending) -> Ending {
+pub fn ask_all(rt: &HostRuntime, t: &Table, ending: Ending) -> Ending {
     let mut all_answered = true;
-    let end = boltclover_shared::asked_end();
-    let mut i = boltclover_shared::FIRST_ASKED;
-    while i < end {
-        if !ask(t, Node(boltclover_shared::asked(i))) {
+    for i in boltclover_shared::FIRST_ASKED..boltclover_shared::asked_end(rt) {
+        if !ask(rt, t, Node(boltclover_shared::asked(rt, i))) {
             all_answered = false;
         }
-        i += 1;
     }
     if all_answered {
         return ending;

@@ -15,37 +15,39 @@ mod virtual_conflict;
 
 use boltclover_shared::Ending;
 use refusal::Answer;
+use std::process::ExitCode;
 use table::Table;
 
-fn show(t: &mut Table) -> Ending {
-    let ending = turns::show_tape(t, true);
+fn show(rt: &HostRuntime, t: &mut Table) -> Ending {
+    let ending = turns::show_tape(rt, t, true);
     match ending {
-        Ending::Well => print::listing(t, Ending::Well),
-        Ending::Badly => print::listing(t, Ending::Badly),
+        Ending::Well => print::listing(rt, t, Ending::Well),
+        Ending::Badly => print::listing(rt, t, Ending::Badly),
         Ending::Misused => Ending::Misused,
     }
 }
 
-fn ask(t: &mut Table) -> Ending {
-    let ending = turns::show_tape(t, false);
-    asking::ask_all(t, ending)
+fn ask(rt: &HostRuntime, t: &mut Table) -> Ending {
+    let ending = turns::show_tape(rt, t, false);
+    asking::ask_all(rt, t, ending)
 }
 
-fn show_or_ask(t: &mut Table) -> Ending {
-    if boltclover_shared::FIRST_ASKED < boltclover_shared::asked_end() {
-        return ask(t);
+fn show_or_ask(rt: &HostRuntime, t: &mut Table) -> Ending {
+    if boltclover_shared::FIRST_ASKED < boltclover_shared::asked_end(rt) {
+        return ask(rt, t);
     }
-    show(t)
+    show(rt, t)
 }
 
-fn show_from_begin() -> Ending {
+fn show_from_begin(rt: &HostRuntime) -> Ending {
     let mut table = [0u16; table::layout::WORDS];
-    match primal::make(&mut table, boltclover_shared::begin(tape::turn::begin())) {
-        Answer::Done(_) => show_or_ask(&mut table),
-        Answer::Refused(_, _) => boltclover_shared::end_bad_begin(),
+    let begin = boltclover_shared::begin(rt, tape::turn::begin());
+    match primal::make(&mut table, begin) {
+        Answer::Done(_) => show_or_ask(rt, &mut table),
+        Answer::Refused(_, _) => boltclover_shared::end_bad_begin(rt),
     }
 }
 
-fn main() {
-    boltclover_shared::end(show_from_begin());
+fn main(rt: HostRuntime) -> ExitCode {
+    boltclover_shared::end(show_from_begin(&rt))
 }

@@ -51,7 +51,14 @@ fn write_answers(
 }
 
 // The request that stands first on the tape, in so many bytes, and what it answers.
-pub fn record(t: &mut Table, tape: &[u8], size: usize, request: Request, aloud: bool) -> bool {
+pub fn record(
+    rt: &HostRuntime,
+    t: &mut Table,
+    tape: &[u8],
+    size: usize,
+    request: Request,
+    aloud: bool,
+) -> bool {
     let mut space = [0u8; 8192];
     let out: &mut [u8] = &mut space;
     let mut line_space = [0u8; 16384];
@@ -75,43 +82,43 @@ pub fn record(t: &mut Table, tape: &[u8], size: usize, request: Request, aloud: 
     }
     let p = write_lines(lines, 0, tape, size);
     let n = write_answers(lines, p, t, request, out, written);
-    boltclover_shared::write_first(lines, n)
+    boltclover_shared::write_first(rt, lines, n)
 }
 
 // The bad record that stands first on the rest of a tape, at such a byte of it.
-pub fn bad_record(at: u64, rest: &[u8], aloud: bool) {
-    let mut space = io::buffer();
+pub fn bad_record(rt: &HostRuntime, at: u64, rest: &[u8], aloud: bool) {
+    let mut space = [0u8; 4096];
     let line: &mut [u8] = &mut space;
     if aloud {
         let n = text::write_bad_record(line, 0, b"  refused 12", at, rest);
-        boltclover_shared::write_first(line, n);
+        boltclover_shared::write_first(rt, line, n);
     }
     let m = text::write_bad_record(line, 0, b"bad record", at, rest);
-    boltclover_shared::complain_first(line, m);
+    boltclover_shared::complain_first(rt, line, m);
 }
 
-fn entries(out: &[u8], written: usize) -> bool {
+fn entries(rt: &HostRuntime, out: &[u8], written: usize) -> bool {
     let mut space = [0u8; 16384];
     let lines: &mut [u8] = &mut space;
     let n = write_lines(lines, 0, out, written);
-    boltclover_shared::write_first(lines, n)
+    boltclover_shared::write_first(rt, lines, n)
 }
 
-fn list(t: &Table) -> bool {
+fn list(rt: &HostRuntime, t: &Table) -> bool {
     let mut space = [0u8; 8192];
     let out: &mut [u8] = &mut space;
-    if !boltclover_shared::write_out(b"listing\n") {
+    if !boltclover_shared::write_out(rt, b"listing\n") {
         return false;
     }
     match primal::list(t, out) {
-        Answer::Done(written) => entries(out, written),
+        Answer::Done(written) => entries(rt, out, written),
         Answer::Refused(_, _) => false,
     }
 }
 
 // The listing after the tape, which ended so.
-pub fn listing(t: &Table, ending: Ending) -> Ending {
-    if !list(t) {
+pub fn listing(rt: &HostRuntime, t: &Table, ending: Ending) -> Ending {
+    if !list(rt, t) {
         return Ending::Badly;
     }
     ending

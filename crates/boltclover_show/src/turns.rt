@@ -22,7 +22,14 @@ struct Turn {
 }
 
 // The records in the bytes of a turn. While the tape goes on, a record that could stand beyond its end is left for the next turn.
-fn show_records(t: &mut Table, tape: &[u8], start: u64, is_last: bool, aloud: bool) -> Turn {
+fn show_records(
+    rt: &HostRuntime,
+    t: &mut Table,
+    tape: &[u8],
+    start: u64,
+    is_last: bool,
+    aloud: bool,
+) -> Turn {
     let mut rest = tape;
     let mut used: usize = 0;
     while 0 < rest.len() {
@@ -36,7 +43,7 @@ fn show_records(t: &mut Table, tape: &[u8], start: u64, is_last: bool, aloud: bo
         }
         match primal::read_record(rest) {
             Reading::Request(request, size) => {
-                if !print::record(t, rest, size, request, aloud) {
+                if !print::record(rt, t, rest, size, request, aloud) {
                     return Turn {
                         ended: WRONG,
                         used: used,
@@ -46,7 +53,7 @@ fn show_records(t: &mut Table, tape: &[u8], start: u64, is_last: bool, aloud: bo
                 used = tape.len() - rest.len();
             }
             Reading::Refused(_) => {
-                print::bad_record(place(start, used), rest, aloud);
+                print::bad_record(rt, place(start, used), rest, aloud);
                 return Turn {
                     ended: WRONG,
                     used: used,
@@ -69,29 +76,35 @@ fn end_of(is_last: bool) -> u8 {
 
 // No tape is so long that the sum would wrap.
 fn place(start: u64, used: usize) -> u64 {
-    std::num::wrapping_add_u64(start, used as u64)
+    start.wrapping_add(used as u64)
 }
 
-fn show_turn(t: &mut Table, tape: &[u8], n: usize, start: u64, aloud: bool) -> Turn {
+fn show_turn(
+    rt: &HostRuntime,
+    t: &mut Table,
+    tape: &[u8],
+    n: usize,
+    start: u64,
+    aloud: bool,
+) -> Turn {
     if tape.len() < n {
         return Turn {
             ended: WRONG,
             used: 0,
         };
     }
-    show_records(t, &tape[0..n], start, n < tape.len(), aloud)
+    show_records(rt, t, &tape[0..n], start, n < tape.len(), aloud)
 }
 
-// A proved loop has to end, and nothing says that a tape does: the turns are counted down from a number that no tape uses up.
-pub fn show_tape(t: &mut Table, aloud: bool) -> Ending {
-    let mut space = io::large_buffer();
+// A proved loop has to end, and nothing says that a tape does: no tape uses up so many turns.
+pub fn show_tape(rt: &HostRuntime, t: &mut Table, aloud: bool) -> Ending {
+    let mut space = [0u8; 65536];
     let tape: &mut [u8] = &mut space;
     let mut have: usize = 0;
     let mut start: u64 = 0;
-    let mut turns = u64::MAX;
-    while 0 < turns {
-        let n = boltclover_shared::read_behind(tape, have);
-        let turn = show_turn(t, tape, n, start, aloud);
+    for _ in 0..u64::MAX {
+        let n = boltclover_shared::read_behind(rt, tape, have);
+        let turn = show_turn(rt, t, tape, n, start, aloud);
         if turn.ended == AT_END {
             return Ending::Well;
         }
@@ -100,7 +113,6 @@ pub fn show_tape(t: &mut Table, aloud: bool) -> Ending {
         }
         start = place(start, turn.used);
         have = boltclover_shared::keep_rest(tape, turn.used, n);
-        turns -= 1;
     }
     Ending::Badly
 }
