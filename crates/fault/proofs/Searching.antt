@@ -1,6 +1,6 @@
 -- The search for the lowest slot and for the first rule, step by step as the code takes it.
 use mathlib.Core.Path.{◌≡◌, refl, ◌∙◌}
-use mathlib.Core.Bool.{Bool, true, false}
+use mathlib.Core.Bool.{true, false}
 use Prim.Native.Nat.{ℕ, ◌+◌, ◌-◌, ◌≤◌, ◌<◌}
 use native.Mathlib.Numerals.{add-one}
 use Rattle.lists.proofs.Budget.{one_left, none_left}

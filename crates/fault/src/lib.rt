@@ -11,6 +11,7 @@ use rules::fault::{Fault, Rule};
 use slot::Node;
 use table::Table;
 
+#[tactic(auto, using(crate::proofs::Searching::none_lower, crate::proofs::Searching::lowest_here, crate::proofs::Searching::lowest_later))]
 fn lowest_fault(t: &Table, rule: Rule) -> Fault
     ensures { result ≡ lowest_fault rule (table_of t.now) 256 0 }
 {

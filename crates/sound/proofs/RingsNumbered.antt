@@ -10,11 +10,9 @@ use lib.Dec.{T, eqb}
 use lib.ListN.{length}
 use lib.Seq.{get_or-set_other}
 use borrow.Author.Tests.{eq-eqb, le-leb, lt-leb}
-use Rattle.slot.specs.declared.state.State.TheVariants as S
 use Rattle.slot.specs.Number.{none}
 use Rattle.table.specs.Table.{Table, at, Full}
 use Rattle.table.specs.Nodes.{present, inner}
-use Rattle.table.specs.Climb.{inside}
 use Rattle.rules.specs.Slots.{up, next}
 use Rattle.rules.specs.Sound.{next_in_ring}
 use Rattle.theorems_soundness.specs.Chain.{◌∈◌, NoDup, Chain}

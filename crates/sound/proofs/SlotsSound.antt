@@ -18,7 +18,6 @@ use Rattle.rules.specs.Sound.{holds, is_defect_inside, s5, s6, sound}
 use Rattle.theorems_soundness.specs.Facts.{Sizes, Given, Names, Pointers, Core}
 use Rattle.theorems_soundness.specs.FactsOfNodes.{Kind, free_node, virtual_node, paired_node, root_node, minus_node, plus_node, OuterChild}
 use Rattle.theorems_soundness.specs.FactsOfBlossoms.{PresentBlossom, Ring, InBlossom}
-use Rattle.theorems_soundness.proofs.Reflect.{tests}
 use Rattle.theorems_soundness.proofs.ReflectSlots.{outer-present, inner-present}
 use Rattle.theorems_soundness.proofs.Chains.{chain_start}
 use Rattle.theorems_soundness.proofs.OuterKinds.{kind→s3, kind→s4}

@@ -7,8 +7,7 @@ use Prim.Native.Nat.{ℕ, ◌+◌, ◌%◌, ◌^◌, ◌≤◌, ◌<◌}
 use native.Mathlib.Omega.{arith}
 use lib.ListN.{get_or, set}
 use lib.Seq.{get_or-set_same, get_or-set_other}
-use Rattle.table.specs.Table.{Table, at}
-use Rattle.rules.specs.Slots.{next}
+use Rattle.table.specs.Table.{Table}
 use Rattle.theorems_soundness.specs.FactsOfBlossoms.{Inside}
 use Rattle.theorems_soundness.proofs.InsideLaws.{inside_self}
 use Rattle.sound_walks.specs.Numbers.{Numbers, counted, begun, ended}
