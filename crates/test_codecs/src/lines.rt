@@ -1,51 +1,53 @@
 // Reads each line of standard input by itself, and prints the record that it makes; a request is then written in words again, and
 // held to the line. A line that is no request is printed with what was expected of it.
-use crate::message::say;
 use crate::{made, message};
-use libc::STDIN_FILENO;
+use std::io;
+use std::io::Read;
 use text::{Fault, Line};
 
-fn bad(number: u64, fault: Fault) {
-    let mut space = io::buffer();
+fn bad(rt: &HostRuntime, number: u64, fault: Fault) -> io::Result<()> {
+    let mut space = [0u8; 4096];
     let room: &mut [u8] = &mut space;
     let n = text::write_fault(room, 0, number, fault);
     let words = &room[..];
     if n <= words.len() {
-        say(message::BAD);
-        io::write_all(1, &words[0..n]);
+        rt.print(message::BAD)?;
+        rt.write_all(&words[0..n])?;
     }
+    Ok(())
 }
 
-fn read(line: &[u8], number: u64) {
+fn read(rt: &HostRuntime, line: &[u8], number: u64) -> io::Result<()> {
     let mut space = [0u8; 24];
     let record: &mut [u8] = &mut space;
     match text::read_line(line, record) {
-        Line::Passed => say(message::PASSED_OVER),
-        Line::Request(size) => made::show(record, size, line),
-        Line::Bad(fault) => bad(number, fault),
+        Line::Passed => rt.print(message::PASSED_OVER),
+        Line::Request(size) => made::show(rt, record, size, line),
+        Line::Bad(fault) => bad(rt, number, fault),
     }
 }
 
-fn by_itself(line: &[u8], number: u64) {
-    io::write_all(1, line);
-    io::write_all(1, b"\n");
-    read(line, number);
+fn by_itself(rt: &HostRuntime, line: &[u8], number: u64) -> io::Result<()> {
+    rt.write_all(line)?;
+    rt.write_all(b"\n")?;
+    read(rt, line, number)
 }
 
 // Lines are numbered from 1.
-fn lines(text: &[u8]) {
+fn lines(rt: &HostRuntime, text: &[u8]) -> io::Result<()> {
     let mut from = 0;
     let mut number: u64 = 0;
     while from < text.len() {
-        let end = bytes::scan::find(text, from, text.len(), b'\n');
-        number = std::num::wrapping_add_u64(number, 1);
-        by_itself(&text[from..end], number);
+        let end = text::next(text, from, b'\n', true);
+        number = number.wrapping_add(1);
+        by_itself(rt, &text[from..end], number)?;
         from = end + 1;
     }
+    Ok(())
 }
 
-pub fn all() {
-    let mut text = io::large_buffer();
-    let n = io::read_full(STDIN_FILENO, &mut text);
-    lines(&text[..n]);
+pub fn all(rt: &HostRuntime) -> io::Result<()> {
+    let mut text = Vec::new(rt.alloc());
+    rt.reader().take(65536).read_to_end(&mut text)?;
+    lines(rt, &text)
 }

@@ -9,11 +9,13 @@ mod read;
 mod show;
 mod write;
 
-fn main() {
-    read::lengths();
-    read::padding();
-    read::largest();
-    read::kinds();
-    write::all();
-    lines::all();
+use std::io;
+
+fn main(rt: HostRuntime) -> io::Result<()> {
+    read::lengths(&rt)?;
+    read::padding(&rt)?;
+    read::largest(&rt)?;
+    read::kinds(&rt)?;
+    write::all(&rt)?;
+    lines::all(&rt)
 }

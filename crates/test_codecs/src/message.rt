@@ -1,18 +1,11 @@
 // What is printed about a line.
 
-pub const PASSED_OVER: usize = 0;
+pub const PASSED_OVER: &str = "  passed over\n";
 
-pub const RECORD: usize = 1;
+pub const RECORD: &str = "  record ";
 
-pub const SAME_WORDS: usize = 2;
+pub const SAME_WORDS: &str = ", written in the same words\n";
 
-pub const OTHER_WORDS: usize = 3;
+pub const OTHER_WORDS: &str = ", written as ";
 
-pub const BAD: usize = 4;
-
-pub fn say(message: usize) {
-    let messages = b"  passed over
-|  record |, written in the same words
-|, written as |  ";
-    io::write_all(1, text::nth(messages, b'|', message));
-}
+pub const BAD: &str = "  ";

@@ -3,57 +3,66 @@
 use crate::show;
 use record::Reading;
 use refusal::{Answer, Side};
+use std::io;
 
-fn again(tape: &[u8], out: &mut [u8; 24]) -> Answer {
+fn again(rt: &HostRuntime, tape: &[u8], out: &mut [u8; 24]) -> io::Result<Answer> {
     match record_reading::read_record(tape) {
         Reading::Request(request, size) => {
-            show::told(b" ", size);
-            record_writing::requests::write_request(out, 0, request)
+            show::told(rt, " ", size)?;
+            Ok(record_writing::requests::write_request(out, 0, request))
         }
-        Reading::Refused(refusal) => Answer::Refused(refusal, Side::Neither),
+        Reading::Refused(refusal) => Ok(Answer::Refused(refusal, Side::Neither)),
     }
 }
 
-fn line(tape: &[u8]) {
+fn line(rt: &HostRuntime, tape: &[u8]) -> io::Result<()> {
     let mut bytes = [238u8; 24];
-    show::told(b"read ", tape.len());
-    let answer = again(tape, &mut bytes);
-    show::outcome(answer, &bytes);
+    show::told(rt, "read ", tape.len())?;
+    let answer = again(rt, tape, &mut bytes)?;
+    show::outcome(rt, answer, &bytes)
 }
 
 // The tape cut after each of its bytes, down to none.
-fn cut(tape: &[u8]) {
-    let mut n = 0;
-    while n < tape.len() {
-        line(&tape[..n]);
-        n += 1;
+fn cut(rt: &HostRuntime, tape: &[u8]) -> io::Result<()> {
+    for n in 0..tape.len() {
+        line(rt, &tape[..n])?;
     }
-    line(tape);
+    line(rt, tape)
 }
 
 // Each tape has one byte more than the record fills.
-pub fn lengths() {
-    cut(b"\x12\x00\x01\x00\x00\x00\x01\x00\x02\x00\x03\x00\x0a\x00\x00\x00\x0b\x00\x00\x00\x63");
-    cut(b"\x0e\x00\x02\x00\x04\x01\x05\x02\x01\x02\x03\x04\x05\x06\x07\x08\x63");
-    cut(b"\x04\x00\x03\x00\x80\x00\x63");
-    cut(b"\x06\x00\x03\x00\x80\x00\x00\x00\x63");
-    cut(b"\x02\x00\x04\x00\x63");
-    cut(b"\x02\x00\x05\x00\x63");
+pub fn lengths(rt: &HostRuntime) -> io::Result<()> {
+    cut(
+        rt,
+        b"\x12\x00\x01\x00\x00\x00\x01\x00\x02\x00\x03\x00\x0a\x00\x00\x00\x0b\x00\x00\x00\x63",
+    )?;
+    cut(
+        rt,
+        b"\x0e\x00\x02\x00\x04\x01\x05\x02\x01\x02\x03\x04\x05\x06\x07\x08\x63",
+    )?;
+    cut(rt, b"\x04\x00\x03\x00\x80\x00\x63")?;
+    cut(rt, b"\x06\x00\x03\x00\x80\x00\x00\x00\x63")?;
+    cut(rt, b"\x02\x00\x04\x00\x63")?;
+    cut(rt, b"\x02\x00\x05\x00\x63")
 }
 
 // A padding of which one byte is not zero, each in turn; the length of an expansion before two zeros; a conflict with two zeros more.
-pub fn padding() {
-    line(b"\x06\x00\x03\x00\x80\x00\x01\x00");
-    line(b"\x06\x00\x03\x00\x80\x00\x00\x80");
-    line(b"\x04\x00\x03\x00\x80\x00\x00\x00");
+pub fn padding(rt: &HostRuntime) -> io::Result<()> {
+    line(rt, b"\x06\x00\x03\x00\x80\x00\x01\x00")?;
+    line(rt, b"\x06\x00\x03\x00\x80\x00\x00\x80")?;
+    line(rt, b"\x04\x00\x03\x00\x80\x00\x00\x00")?;
     line(
+        rt,
         b"\x14\x00\x01\x00\x00\x00\x01\x00\x02\x00\x03\x00\x0a\x00\x00\x00\x0b\x00\x00\x00\x00\x00",
-    );
+    )
 }
 
-pub fn largest() {
-    line(b"\x12\x00\x01\x00\xff\xff\xff\xff\xff\xff\xff\xff\xff\xff\xff\xff\xff\xff\xff\xff");
-    line(b"\x04\x00\xff\xff\xff\xff");
+pub fn largest(rt: &HostRuntime) -> io::Result<()> {
+    line(
+        rt,
+        b"\x12\x00\x01\x00\xff\xff\xff\xff\xff\xff\xff\xff\xff\xff\xff\xff\xff\xff\xff\xff",
+    )?;
+    line(rt, b"\x04\x00\xff\xff\xff\xff")
 }
 
 // The bytes taken from a record of this kind that states this length, where every byte behind the kind is the same: none where it is
@@ -70,24 +79,21 @@ fn taken(kind: u8, length: u8, byte: u8) -> usize {
     }
 }
 
-fn every_length(kind: u8, byte: u8) {
-    show::told(b"kind ", kind as usize);
-    show::told(b" before bytes of ", byte as usize);
-    io::write_all(1, b" takes");
-    let mut length: u8 = 0;
-    while length < 28 {
-        show::told(b" ", taken(kind, length, byte));
-        length += 1;
+fn every_length(rt: &HostRuntime, kind: u8, byte: u8) -> io::Result<()> {
+    show::told(rt, "kind ", kind as usize)?;
+    show::told(rt, " before bytes of ", byte as usize)?;
+    rt.print(" takes")?;
+    for length in 0..28 {
+        show::told(rt, " ", taken(kind, length, byte))?;
     }
-    io::write_all(1, b"\n");
+    rt.println("")
 }
 
 // Zeros are the padding of a padded record.
-pub fn kinds() {
-    let mut kind: u8 = 0;
-    while kind < 24 {
-        every_length(kind, 1);
-        every_length(kind, 0);
-        kind += 1;
+pub fn kinds(rt: &HostRuntime) -> io::Result<()> {
+    for kind in 0..24 {
+        every_length(rt, kind, 1)?;
+        every_length(rt, kind, 0)?;
     }
+    Ok(())
 }

@@ -1,31 +1,25 @@
 // Printing.
 use refusal::Answer;
+use std::io;
 
 // Words, and a number after them.
-pub fn told(words: &[u8], n: usize) {
-    io::write_all(1, words);
-    io::print_decimal(1, n as u64);
+pub fn told(rt: &HostRuntime, words: &str, n: usize) -> io::Result<()> {
+    print!(rt; "{words}{n}")
 }
 
 // What came of a call, the bytes lent to it in hexadecimal, two digits each, and the end of the line.
-pub fn outcome(answer: Answer, lent: &[u8; 24]) {
+pub fn outcome(rt: &HostRuntime, answer: Answer, lent: &[u8; 24]) -> io::Result<()> {
     match answer {
-        Answer::Done(size) => told(b" done ", size),
-        Answer::Refused(refusal, _) => told(b" refused ", refusal::number(refusal) as usize),
+        Answer::Done(size) => told(rt, " done ", size)?,
+        Answer::Refused(refusal, _) => told(rt, " refused ", refusal::number(refusal) as usize)?,
     }
-    bytes(lent);
+    bytes(rt, lent)
 }
 
-fn bytes(lent: &[u8; 24]) {
-    io::write_all(1, b" ");
-    let mut i = 0;
-    while i < 24 {
-        hex(lent[i]);
-        i += 1;
+fn bytes(rt: &HostRuntime, lent: &[u8; 24]) -> io::Result<()> {
+    rt.print(" ")?;
+    for byte in lent {
+        print!(rt; "{byte:02x}")?;
     }
-    io::write_all(1, b"\n");
-}
-
-fn hex(byte: u8) {
-    io::print_hex(1, byte as u64, 2);
+    rt.println("")
 }

@@ -5,6 +5,7 @@ use crate::show;
 use record::{Conflict, Expansion, Pair, Record, Request, Speed, VirtualConflict, VirtualPair};
 use refusal::{Answer, Side};
 use slot::{Node, Vertex};
+use std::io;
 
 fn answer_of(i: u8) -> Record {
     match i {
@@ -58,44 +59,44 @@ fn put(out: &mut [u8], pos: usize, i: u8) -> Answer {
     record_writing::requests::write_request(out, pos, request_of(i))
 }
 
-fn record(i: u8, room: usize, pos: usize) {
+fn record(rt: &HostRuntime, i: u8, room: usize, pos: usize) -> io::Result<()> {
     let mut bytes = [238u8; 24];
     if room > 24 {
-        return;
+        return Ok(());
     }
-    show::told(b"write room ", room);
-    show::told(b" at ", pos);
+    show::told(rt, "write room ", room)?;
+    show::told(rt, " at ", pos)?;
     let answer = put(&mut bytes[..room], pos, i);
-    show::outcome(answer, &bytes);
+    show::outcome(rt, answer, &bytes)
 }
 
 // A record of size bytes: no room, one byte short, exact, one byte more; then in the middle, one byte too far, at the end and past it.
-fn rooms(i: u8, size: usize)
+fn rooms(rt: &HostRuntime, i: u8, size: usize) -> io::Result<()>
     requires size_nonzero { 0 < size }
     requires size_bound { size < 23 }
 {
-    record(i, 0, 0);
-    record(i, size - 1, 0);
-    record(i, size, 0);
-    record(i, size + 1, 0);
-    record(i, size + 2, 2);
-    record(i, size + 2, 3);
-    record(i, size + 2, size + 2);
-    record(i, size + 2, 1000);
+    record(rt, i, 0, 0)?;
+    record(rt, i, size - 1, 0)?;
+    record(rt, i, size, 0)?;
+    record(rt, i, size + 1, 0)?;
+    record(rt, i, size + 2, 2)?;
+    record(rt, i, size + 2, 3)?;
+    record(rt, i, size + 2, size + 2)?;
+    record(rt, i, size + 2, 1000)
 }
 
-pub fn all() {
-    rooms(0, 8);
-    rooms(1, 8);
-    rooms(2, 8);
-    rooms(3, 6);
-    rooms(4, 6);
-    rooms(5, 8);
-    rooms(6, 16);
-    rooms(7, 14);
-    rooms(8, 20);
-    rooms(9, 16);
-    rooms(10, 6);
-    rooms(11, 4);
-    rooms(12, 4);
+pub fn all(rt: &HostRuntime) -> io::Result<()> {
+    rooms(rt, 0, 8)?;
+    rooms(rt, 1, 8)?;
+    rooms(rt, 2, 8)?;
+    rooms(rt, 3, 6)?;
+    rooms(rt, 4, 6)?;
+    rooms(rt, 5, 8)?;
+    rooms(rt, 6, 16)?;
+    rooms(rt, 7, 14)?;
+    rooms(rt, 8, 20)?;
+    rooms(rt, 9, 16)?;
+    rooms(rt, 10, 6)?;
+    rooms(rt, 11, 4)?;
+    rooms(rt, 12, 4)
 }
