@@ -131,7 +131,7 @@ module _ (t : Table) (w : Whole t) where
     | inr d ↦ →or (not (eqb (up t x) none)) (not (eqb (at t x).first_child none)) (inl ((not_eqb↔ (up t x) none).1 d))
     | inl top ↦
         let above : root t y ≡ x = sym e ∙ ways.root_is_end t w.full w.core x ox ∙ ap end_of (ways.upward_top t w.full w.core x ox top) in
-        let on_way : x ∈ upward t y = rw above at (ways.root_above t w.full w.core y oy) in
+        let on_way : x ∈ upward t y = rw above at (ways.root_above_lem t w.full w.core y oy) in
         elim (chain_before (up t) y (upward t y) (ways.upward_chain t w.full w.core y oy) x on_way) [
           | inl z ↦ absurd (two z)
           | inr r ↦
