@@ -36,21 +36,21 @@ expand_128 = Q.Expansion (expansion_from (128 ∷ []))
 abbrev exact_bytes : List ℕ
 exact_bytes = 0x04 ∷ 0x00 ∷ 0x03 ∷ 0x00 ∷ 0x80 ∷ 0x00 ∷ []
 
-abbrev padded_bytes_lem : List ℕ
-padded_bytes_lem = 0x06 ∷ 0x00 ∷ 0x03 ∷ 0x00 ∷ 0x80 ∷ 0x00 ∷ 0x00 ∷ 0x00 ∷ []
+abbrev padded_bytes : List ℕ
+padded_bytes = 0x06 ∷ 0x00 ∷ 0x03 ∷ 0x00 ∷ 0x80 ∷ 0x00 ∷ 0x00 ∷ 0x00 ∷ []
 
 -- written exact; the other form, and back from it
-forms : (request_bytes expand_128 ≡ exact_bytes) × (padded_request expand_128 ≡ padded_bytes_lem) × (unpadded K.Expansion padded_bytes_lem ≡ exact_bytes)
+forms : (request_bytes expand_128 ≡ exact_bytes) × (padded_request expand_128 ≡ padded_bytes) × (unpadded K.Expansion padded_bytes ≡ exact_bytes)
 unfolding request_bytes padded_request
 forms = (refl, refl, refl)
 
-padded_read : (read padded_bytes_lem ≡ R.Request expand_128 8) × (read exact_bytes ≡ R.Request expand_128 6)
+padded_read : (read padded_bytes ≡ R.Request expand_128 8) × (read exact_bytes ≡ R.Request expand_128 6)
 unfolding read layout_of
 padded_read = (refl, refl)
 
 -- in numbers; what stands behind the padding is left on the tape
 padded-told :
-    let r = read (padded_bytes_lem ++ 7 ∷ []) in
+    let r = read (padded_bytes ++ 7 ∷ []) in
     (reading_number r ≡ 0) × (reading_values r ≡ 3 ∷ 128 ∷ []) × (reading_size r ≡ 8)
 unfolding read layout_of
 padded-told = (refl, refl, refl)

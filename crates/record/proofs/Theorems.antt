@@ -18,7 +18,7 @@ use Rattle.record.proofs.Codec.{decode_of_encode, encode_of_decode}
 use Rattle.record.proofs.Read.{read_size, read_four, bad_exactly}
 use Rattle.record.proofs.RoundTrips.{read_back, read_back_padded, read_so, read-unpadded, read_fit, placed-read}
 use Rattle.record.proofs.ReadInNumbers.{read_in_numbers, read_of_numbers}
-use Rattle.record.proofs.Written.{placed_parts, writeAll-room}
+use Rattle.record.proofs.Written.{placed_parts, write_all-room}
 
 -- fields that were encoded are decoded, whatever their widths and whatever stands after them
 pub decode-encode : (ws vs rest : List ℕ) → AllFit ws vs → decode ws (encode ws vs ++ rest) ≡ vs
@@ -80,4 +80,4 @@ pub answers-written :
     (rs : List Record) (l : List ℕ) (p : ℕ)
     → p + length (bytes_of rs) ≤ length l
     → write_all (out_of l p) rs ≡ out_of (placed l p (bytes_of rs)) (p + length (bytes_of rs))
-answers-written = writeAll-room
+answers-written = write_all-room

@@ -128,11 +128,11 @@ room-step rs l p xs ys h later =
     rw (written-room l p xs (omega arith), ← j, ← e) (later (omega arith))
 
 -- where there is room for all of a run, its bytes stand one after another
-pub writeAll-room :
+pub write_all-room :
     (rs : List Record) (l : List ℕ) (p : ℕ)
     → p + length (bytes_of rs) ≤ length l
     → write_all (out_of l p) rs ≡ out_of (placed l p (bytes_of rs)) (p + length (bytes_of rs))
 unfolding write_all bytes_of
-writeAll-room [] l p h = rw (add-zero, placed-none)
-writeAll-room (r ∷ rs) l p h =
-    room-step rs l p (answer_bytes r) (bytes_of rs) h (writeAll-room rs (placed l p (answer_bytes r)) (p + length (answer_bytes r)))
+write_all-room [] l p h = rw (add-zero, placed-none)
+write_all-room (r ∷ rs) l p h =
+    room-step rs l p (answer_bytes r) (bytes_of rs) h (write_all-room rs (placed l p (answer_bytes r)) (p + length (answer_bytes r)))

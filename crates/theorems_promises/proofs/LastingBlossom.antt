@@ -10,7 +10,7 @@ use Rattle.slot.specs.Slot.{Link, Slot, mirror, empty_slot}
 use Rattle.table.specs.Table.{at, put}
 use Rattle.table.specs.Counts.{with_blossoms}
 use Rattle.table.specs.Climb.{second_outer_blossom}
-use Rattle.rules.specs.Act.{skip, say, change, ◌then◌, choose, alter, same, speed, create, expand}
+use Rattle.rules.specs.Act.{skip, say, change, choose, alter, same, speed, create, expand}
 use Rattle.rules.specs.Slots.{with_parent, with_first_child, with_sibling, shaped, is_none, up, next}
 use Rattle.rules.specs.Matching.{temporary_match}
 use Rattle.rules.specs.Blossom.{relinked, relisted, replace_child, adopted, moved, moved_up_to, last_below, gathered, enclosed, ring_up, ring_down, ringed, new_blossom, blossom_placed, create_blossom}

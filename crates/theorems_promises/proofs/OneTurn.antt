@@ -12,7 +12,7 @@ use Rattle.table.proofs.WordsOfSlots.{slots_length}
 use Rattle.record.specs.declared.answer.Record.{Record}
 use Rattle.record.specs.Records.{answer_bytes}
 use Rattle.record.specs.Writing.{Out, out_of, write_all, bytes_of}
-use Rattle.record.proofs.Written.{write_all_append, writeAll-room, length-placed}
+use Rattle.record.proofs.Written.{write_all_append, write_all-room, length-placed}
 use Rattle.rules.specs.Act.{World, world_of, run}
 use Rattle.rules.specs.Sound.{sound}
 use Rattle.rules.specs.Run.{Stop, tape_empty, allowance_used, output_full, bad_record, Progress, Ended, room, Ran, ran, run_from, began, run_tape, Between, requests_of, run_room}
@@ -43,7 +43,7 @@ said_first rs bytes bytes' written h e =
 
 -- the room that records leave
 room_behind : (rs : List Record) (bytes : List ℕ) → length (bytes_of rs) ≤ length bytes → let o = write_all (out_of bytes 0) rs in length o.buf - o.pos ≡ length bytes - length (bytes_of rs)
-room_behind rs bytes h = rw (writeAll-room rs bytes 0 (omega arith), length-placed) (omega arith)
+room_behind rs bytes h = rw (write_all-room rs bytes 0 (omega arith), length-placed) (omega arith)
 
 last_size : (e : TurnEnd) → length (bytes_of (last_records e)) ≤ 8
 unfolding bytes_of answer_bytes

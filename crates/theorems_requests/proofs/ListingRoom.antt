@@ -14,7 +14,7 @@ use Rattle.table.specs.Climb.{outer_blossom}
 use Rattle.record.specs.declared.answer.Record.{Record}
 use Rattle.record.specs.Records.{answer_bytes}
 use Rattle.record.specs.Writing.{out_of, write_all, bytes_of}
-use Rattle.record.proofs.Written.{writeAll-room, placed_parts}
+use Rattle.record.proofs.Written.{write_all-room, placed_parts}
 use Rattle.rules.specs.Slots.{is_stay}
 use Rattle.rules.specs.Listing.{pair_entry, virtual_entry, listing}
 use Rattle.rules.specs.Refusals.{defect_at, defects_below, present_defects}
@@ -85,4 +85,4 @@ pub run-written :
     (rs : List Record) (l : List ℕ) (p : ℕ)
     → p + length (bytes_of rs) ≤ length l
     → write_all (out_of l p) rs ≡ out_of (take p l ++ bytes_of rs ++ drop (p + length (bytes_of rs)) l) (p + length (bytes_of rs))
-run-written rs l p h = writeAll-room rs l p h ∙ ap (λ (x : List ℕ). out_of x (p + length (bytes_of rs))) (placed_parts l p (bytes_of rs) h)
+run-written rs l p h = write_all-room rs l p h ∙ ap (λ (x : List ℕ). out_of x (p + length (bytes_of rs))) (placed_parts l p (bytes_of rs) h)
