@@ -12,8 +12,8 @@ abbrev pub invariant-loop-number : goal.invariant-loop-number
 invariant-loop-number l =
     record {
       runs :
-        run_from l.left (stands (world_of l.t l.out l.pos) l.rest l.count)
-        ≡ run_from l.initial.left (stands (world_of l.initial.t l.initial.out l.initial.pos) l.initial.rest l.initial.count);
+          run_from l.left (stands (world_of l.t l.out l.pos) l.rest l.count)
+          ≡ run_from l.initial.left (stands (world_of l.initial.t l.initial.out l.initial.pos) l.initial.rest l.initial.count);
       handled : l.count + l.left ≡ l.allowance;
       sound : sound (table_of l.t) ≡ true;
     }
