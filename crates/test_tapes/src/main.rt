@@ -11,8 +11,9 @@ mod orders;
 mod stored;
 mod telling;
 
+ghost use Rattle.std.specs.Prelude.{◌≤◌, length};
+
 use std::io;
-use std::io::Read;
 use std::rt::Files;
 use table::Table;
 
@@ -39,7 +40,9 @@ fn run(t: &mut Table, tape: &[u8], out: &mut [u8], allowance: u32) -> u32 {
 }
 
 // The requests of a script on a fresh table, each by a run of its own; after the last come listings, up to 23 in all.
-fn in_order(t: &mut Table, out: &mut [u8; ROOM], script: &[u8], order: usize) {
+fn in_order(t: &mut Table, out: &mut [u8], script: &[u8], order: usize)
+    requires { 65536 ≤ length out.old }
+{
     primal::make(t, 128);
     for k in 1..24 {
         let i = orders::at(script, order, k);
@@ -68,23 +71,24 @@ fn in_orders(rt: &impl Print, script: &[u8]) -> io::Result<()> {
     orders::report(rt, agreeing, orders)
 }
 
-fn replay(rt: &(impl Print + Files + Alloc), case: &[u8]) -> io::Result<()> {
+fn replay(rt: &(impl Print + Files), case: &[u8]) -> io::Result<()> {
+    let mut tape = [0u8; ROOM];
     let mut out = [0u8; ROOM];
     let mut t = [0u16; table::layout::WORDS];
-    let tape = stored::tape(rt, case)?;
+    let n = stored::tape(rt, case, &mut tape);
     primal::make(&mut t, stored::begin(case));
-    let handled = run(&mut t, tape.as_slice(), &mut out, 65536);
+    let handled = run(&mut t, &tape[..n], &mut out, 65536);
     stored::report(rt, case, handled, &out)
 }
 
-fn case(rt: &(impl Print + Files + Alloc), case: &[u8]) -> io::Result<()> {
+fn case(rt: &(impl Print + Files), case: &[u8]) -> io::Result<()> {
     if crate::telling::is_script(case) {
         return in_orders(rt, case);
     }
     replay(rt, case)
 }
 
-fn cases(rt: &(impl Print + Files + Alloc), text: &[u8]) -> io::Result<()> {
+fn cases(rt: &(impl Print + Files), text: &[u8]) -> io::Result<()> {
     let mut at = 0;
     while at < text.len() {
         let from = telling::skip(rt, text, at)?;
@@ -96,7 +100,7 @@ fn cases(rt: &(impl Print + Files + Alloc), text: &[u8]) -> io::Result<()> {
 }
 
 fn main(rt: HostRuntime) -> io::Result<()> {
-    let mut text = Vec::new(rt.alloc());
-    rt.reader().take(ROOM as u64).read_to_end(&mut text)?;
-    cases(&rt, text.as_slice())
+    let mut text = [0u8; ROOM];
+    let n = stored::fill(&mut rt.stdin(), &mut text);
+    cases(&rt, &text[..n])
 }

@@ -1,5 +1,7 @@
 // Stored tapes, whose answers are held to the original's, byte by byte. A case gives begin, three digits and a blank, and then the
 // name of the file in which the answers stand; the tape's name lacks the ending. A file that cannot be opened counts as empty.
+ghost use Rattle.std.specs.Prelude.{◌≤◌, length};
+
 use crate::ROOM;
 use crate::telling::told;
 use std::io::Read;
@@ -13,23 +15,41 @@ pub fn begin(case: &[u8]) -> u16 {
     (case[0] % 16) as u16 * 100 + (case[1] % 16) as u16 * 10 + (case[2] % 16) as u16
 }
 
-// The first bytes of a file, as many as there may be.
-fn read<R: Files + Alloc>(rt: &R, name: &[u8]) -> io::Result<Vec<u8, R::A>> {
-    let mut bytes = Vec::new(rt.alloc());
-    if let Ok(path) = str::from_utf8(name) {
-        if let Ok(file) = fs::open(rt, path) {
-            file.take(ROOM as u64).read_to_end(&mut bytes)?;
+// Fills the bytes from a reader until there is no more room or no more input, and tells how many there are. A read that fails ends the
+// input.
+pub fn fill(reader: &mut impl Read, bytes: &mut [u8]) -> usize
+    ensures { result ≤ length bytes.new }
+{
+    let mut done = 0;
+    while done < bytes.len() {
+        match reader.read(&mut bytes[done..]) {
+            Ok(0) | Err(_) => break,
+            Ok(n) => done += n,
         }
     }
-    Ok(bytes)
+    done
 }
 
-pub fn tape<R: Files + Alloc>(rt: &R, case: &[u8]) -> io::Result<Vec<u8, R::A>> {
+fn read(rt: &impl Files, name: &[u8], bytes: &mut [u8]) -> usize
+    ensures { result ≤ length bytes.new }
+{
+    if let Ok(path) = str::from_utf8(name) {
+        if let Ok(mut file) = fs::open(rt, path) {
+            return fill(&mut file, bytes);
+        }
+    }
+    0
+}
+
+// Reads the tape, and tells how many bytes it has.
+pub fn tape(rt: &impl Files, case: &[u8], tape: &mut [u8]) -> usize
+    ensures { result ≤ length tape.new }
+{
     if case.len() < 12 {
-        return Ok(Vec::new(rt.alloc()));
+        return 0;
     }
     let end = case.len() - 8;
-    read(rt, &case[4..end])
+    read(rt, &case[4..end], tape)
 }
 
 // Whether the answers stand at the start of the room, and zeros behind them.
@@ -42,22 +62,18 @@ fn has_only(out: &[u8], answers: &[u8]) -> bool {
 
 // The original's answers have zeros after them up to the room that a run has here. Where the same stands in the room afterwards the
 // tape is used up too, since every request has an answer.
-pub fn report(
-    rt: &(impl Print + Files + Alloc),
-    case: &[u8],
-    handled: u32,
-    out: &[u8],
-) -> io::Result<()> {
+pub fn report(rt: &(impl Print + Files), case: &[u8], handled: u32, out: &[u8]) -> io::Result<()> {
     if case.len() < 4 {
         return Ok(());
     }
-    let answers = read(rt, &case[4..])?;
+    let mut answers = [0u8; ROOM];
+    let size = read(rt, &case[4..], &mut answers);
     told(
         rt,
         handled as usize,
         " requests, ",
-        answers.len(),
-        has_only(out, answers.as_slice()),
+        size,
+        has_only(out, &answers[..size]),
         " bytes: as the original",
         " bytes: NOT as the original",
     )
