@@ -6,22 +6,25 @@
 mod turns;
 
 use boltclover_shared::Ending;
-use libc::STDIN_FILENO;
 use refusal::Answer;
+use std::process::ExitCode;
 use table::Table;
 use tape::turn;
 use tape::turn::{Turn, TurnEnd};
 
-fn complain_of_record(at: usize, rest: &[u8]) {
-    let mut space = io::buffer();
+// The bytes of a tape that are read, and the room of a turn.
+const ROOM: usize = 65536;
+
+fn complain_of_record(rt: &HostRuntime, at: usize, rest: &[u8]) {
+    let mut space = [0u8; 4096];
     let line: &mut [u8] = &mut space;
     let n = text::write_bad_record(line, 0, b"bad record", at as u64, rest);
-    boltclover_shared::complain_first(line, n);
+    boltclover_shared::complain_first(rt, line, n);
 }
 
-fn end_bad_tape(tape: &[u8], unread: usize) -> Ending {
+fn end_bad_tape(rt: &HostRuntime, tape: &[u8], unread: usize) -> Ending {
     if unread <= tape.len() {
-        complain_of_record(tape.len() - unread, turn::rest(tape, unread));
+        complain_of_record(rt, tape.len() - unread, turn::rest(tape, unread));
     }
     Ending::Badly
 }
@@ -33,34 +36,33 @@ enum Next {
     End(Ending),
 }
 
-fn what_follows(turn: Turn, tape: &[u8]) -> Next {
+fn what_follows(rt: &HostRuntime, turn: Turn, tape: &[u8]) -> Next {
     let end = turn.end;
     match end {
         TurnEnd::TapeRead => Next::End(Ending::Well),
         TurnEnd::GoesOn => Next::Turn(turn.unread),
-        TurnEnd::BadTape => Next::End(end_bad_tape(tape, turn.unread)),
+        TurnEnd::BadTape => Next::End(end_bad_tape(rt, tape, turn.unread)),
         TurnEnd::NotSound => Next::End(Ending::Badly),
     }
 }
 
 // One turn, with fresh room.
-fn answer_once(t: &mut Table, tape: &[u8], unread: usize) -> Next {
-    let mut space = io::large_buffer();
+fn answer_once(rt: &HostRuntime, t: &mut Table, tape: &[u8], unread: usize) -> Next {
+    let mut space = [0u8; ROOM];
     let out: &mut [u8] = &mut space;
     let taken = turns::take_turn(t, turn::rest(tape, unread), out);
-    let next = what_follows(taken, tape);
-    if !boltclover_shared::write_first(out, taken.written) {
+    let next = what_follows(rt, taken, tape);
+    if !boltclover_shared::write_first(rt, out, taken.written) {
         return Next::End(Ending::Badly);
     }
     next
 }
 
 // Each turn that goes on handles at least one record of four bytes, so no tape uses up the turns.
-fn answer(t: &mut Table, tape: &[u8]) -> Ending {
+fn answer(rt: &HostRuntime, t: &mut Table, tape: &[u8]) -> Ending {
     let mut unread = tape.len();
-    let mut turns = turn::most_bytes();
-    while 0 < turns {
-        match answer_once(t, tape, unread) {
+    for _ in 0..turn::most_bytes() {
+        match answer_once(rt, t, tape, unread) {
             Next::Turn(left) => {
                 unread = left;
             }
@@ -68,46 +70,46 @@ fn answer(t: &mut Table, tape: &[u8]) -> Ending {
                 return ending;
             }
         }
-        turns -= 1;
     }
     Ending::Badly
 }
 
 // Something is left to read.
-fn is_longer() -> bool {
+fn is_longer(rt: &HostRuntime) -> bool {
     let mut one = [0u8; 1];
-    0 < io::read_full(STDIN_FILENO, &mut one)
+    0 < boltclover_shared::read_input(rt, &mut one)
 }
 
 // A tape that is longer was cut.
-fn end_cut_tape() -> Ending {
+fn end_cut_tape(rt: &HostRuntime) -> Ending {
     boltclover_shared::complain(
+        rt,
         b"longer than 65536 bytes, and what comes after them was not read\n",
     );
     Ending::Badly
 }
 
-fn answer_tape(t: &mut Table, tape: &[u8]) -> Ending {
-    let ending = answer(t, tape);
+fn answer_tape(rt: &HostRuntime, t: &mut Table, tape: &[u8]) -> Ending {
+    let ending = answer(rt, t, tape);
     if tape.len() < turn::most_bytes() {
         return ending;
     }
-    if is_longer() {
-        return end_cut_tape();
+    if is_longer(rt) {
+        return end_cut_tape(rt);
     }
     ending
 }
 
-fn serve() -> Ending {
-    let mut tape = io::large_buffer();
-    let n = io::read_full(STDIN_FILENO, &mut tape);
+fn serve(rt: &HostRuntime) -> Ending {
+    let mut tape = [0u8; ROOM];
+    let n = boltclover_shared::read_input(rt, &mut tape);
     let mut table = [0u16; table::layout::WORDS];
-    match primal::make(&mut table, boltclover_shared::begin(turn::begin())) {
-        Answer::Done(_) => answer_tape(&mut table, &tape[..n]),
-        Answer::Refused(_, _) => boltclover_shared::end_bad_begin(),
+    match primal::make(&mut table, boltclover_shared::begin(rt, turn::begin())) {
+        Answer::Done(_) => answer_tape(rt, &mut table, &tape[..n]),
+        Answer::Refused(_, _) => boltclover_shared::end_bad_begin(rt),
     }
 }
 
-fn main() {
-    boltclover_shared::end(serve());
+fn main(rt: HostRuntime) -> ExitCode {
+    boltclover_shared::end(serve(&rt))
 }
