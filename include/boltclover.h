@@ -1,6 +1,6 @@
 /*
  * Boltclover: the primal half of a decoder that pairs detection events by Edmonds's blossom method, for C, C++ and Rust.
- * Built by `rt staticlib primal_c` for x86-64 Linux, as target/staticlib/libprimal_c.a, and by `tools/library` for Arm, RISC-V and
+ * Built by `tools/prove --staticlib primal_c` for x86-64 Linux, as target/staticlib/libprimal_c.a, and by `tools/library` for Arm, RISC-V and
  * WebAssembly too, as target/library/TARGET/libboltclover.a (docs/MACHINES.md). The library has no memory of its own: it
  * allocates nothing, keeps nothing between calls, reads and writes no file, and wants no function but memset and memcpy, which a
  * target without a system has in the library itself, to be replaced by the caller's own (weak symbols). Its calls recurse as deep

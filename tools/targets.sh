@@ -16,7 +16,7 @@ about_target() {
     own_memory=yes
     case $1 in
     x86_64-linux)
-        for_what='x86-64 Linux; the same code as rt staticlib makes'
+        for_what='x86-64 Linux; the same code as rt lib makes'
         target_words='--target=x86_64-unknown-linux-gnu -march=x86-64'
         own_memory='' rust_name=x86_64-unknown-linux-gnu
         ;;
@@ -100,8 +100,8 @@ want_kit() {
         at=$(readlink "$rt")
         case $at in /*) rt=$at ;; *) rt=$(dirname "$rt")/$at ;; esac
     done
-    kit=${RATTLE_HOME:-$(cd "$(dirname "$rt")/.." && pwd -P)}
-    clang=$kit/on/$machine/toolchain/bin/clang
+    kit=$(cd "$(dirname "$rt")/.." && pwd -P)
+    clang=$kit/toolchain/bin/clang
     if [ ! -x "$clang" ]; then
         lack "the toolchain's clang was expected at $clang, and is not there; there is: $(cd "$kit" 2>/dev/null && find . -name 'clang*' 2>/dev/null | head -n 3 | tr '\n' ' ')"
         return
