@@ -16,17 +16,15 @@ pub fn complain_of_length(rt: &HostRuntime, number: u64) {
     boltclover_shared::complain_first(rt, line, n);
 }
 
-// Of a line that is bad: no record fills so many bytes.
-pub const BAD: usize = 65536;
-
-// Reads a line, which has this number, and returns the bytes that its record fills at the start of the tape.
-pub fn read(rt: &HostRuntime, line: &[u8], number: u64, tape: &mut [u8]) -> usize {
+// Reads a line, which has this number, and returns the bytes that its record fills at the start of the tape: of a bad one, which is
+// told, nothing.
+pub fn read(rt: &HostRuntime, line: &[u8], number: u64, tape: &mut [u8]) -> Option<usize> {
     match text::read_line(line, tape) {
-        Line::Passed => 0,
-        Line::Request(size) => size,
+        Line::Passed => Some(0),
+        Line::Request(size) => Some(size),
         Line::Bad(fault) => {
             complain(rt, number, fault);
-            BAD
+            None
         }
     }
 }

@@ -28,9 +28,15 @@ fn one_more(n: u64) -> u64 {
 }
 
 // Reads a line at a position of the tape.
-fn read_at(rt: &HostRuntime, line: &[u8], number: u64, tape: &mut [u8], pos: usize) -> usize {
+fn read_at(
+    rt: &HostRuntime,
+    line: &[u8],
+    number: u64,
+    tape: &mut [u8],
+    pos: usize,
+) -> Option<usize> {
     if tape.len() < pos {
-        return lines::BAD;
+        return None;
     }
     lines::read(rt, line, number, &mut tape[pos..])
 }
@@ -51,15 +57,10 @@ fn read_lines(rt: &HostRuntime, text: &[u8], is_last: bool, tape: &mut [u8], cou
         number = one_more(number);
         let size = read_at(rt, &text[at..end], number, tape, pos);
         at = end + 1;
-        if size == lines::BAD {
-            bad = one_more(bad);
-            continue;
+        match size {
+            Some(size) if size <= tape.len() - pos => pos += size,
+            _ => bad = one_more(bad),
         }
-        if tape.len() - pos < size {
-            bad = one_more(bad);
-            continue;
-        }
-        pos += size;
     }
     Turn {
         lines: number,
