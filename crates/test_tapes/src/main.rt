@@ -91,7 +91,7 @@ fn case(rt: &(impl Print + Files), case: &[u8]) -> io::Result<()> {
 fn cases(rt: &(impl Print + Files), text: &[u8]) -> io::Result<()> {
     let mut at = 0;
     while at < text.len() {
-        let from = telling::skip(rt, text, at)?;
+        let from = telling::skip(rt, text, at);
         let to = telling::find(text, from);
         case(rt, &text[from..to])?;
         at = to + 1;
