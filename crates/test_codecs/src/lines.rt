@@ -2,7 +2,6 @@
 // held to the line. A line that is no request is printed with what was expected of it.
 use crate::{made, message};
 use std::io;
-use std::io::Read;
 use text::{Fault, Line};
 
 fn bad(rt: &HostRuntime, number: u64, fault: Fault) -> io::Result<()> {
@@ -47,7 +46,7 @@ fn lines(rt: &HostRuntime, text: &[u8]) -> io::Result<()> {
 }
 
 pub fn all(rt: &HostRuntime) -> io::Result<()> {
-    let mut text = Vec::new(rt.alloc());
-    rt.reader().take(65536).read_to_end(&mut text)?;
-    lines(rt, &text)
+    let mut text = [0u8; 65536];
+    let n = boltclover_shared::read_input(rt, &mut text);
+    lines(rt, &text[..n])
 }
