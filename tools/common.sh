@@ -52,8 +52,8 @@ explain_environment() {
 Set by the environment:
   CC         the C compiler (gcc; on a machine that is no x86-64, x86_64-linux-gnu-gcc)
   CFLAGS     more words for it
-  RUN        what runs an x86-64 program (nothing; on a machine that is no x86-64, the
-             toolchain's emulator, or else qemu-x86_64)
+  RUN        what runs an x86-64 program (nothing; on a machine that is no x86-64,
+             qemu-x86_64)
 END
 }
 
