@@ -6,7 +6,8 @@ use native.Mathlib.Omega.{arith}
 use lib.ListN.{length}
 use Rattle.record.specs.Writing.{Out, out_of, write_all}
 use Rattle.rules.specs.Act.{World, world_of}
-use Rattle.rules.specs.Run.{Stop, stop_number, Ran, unsound, ran, run_tape}
+use Rattle.rules.specs.declared.stop.Stop.{Stop}
+use Rattle.rules.specs.Run.{stop_number, Ran, unsound, ran, run_tape}
 use Rattle.outcome.specs.Tape.{HandsOut, Tape}
 use Rattle.tape.specs.declared.turn.TurnEnd.{TurnEnd}
 use Rattle.tape.specs.declared.turn.TurnEnd.TheVariants.{NotSound}

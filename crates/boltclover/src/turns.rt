@@ -9,35 +9,22 @@ use tape::turn::{Turn, TurnEnd};
 pub fn take_turn(t: &mut Table, tape: &[u8], out: &mut [u8]) -> Turn
     ensures { TakesTurn t.old out.old tape.now result t.new out.new }
 {
-    let mut stop: u16 = 0;
-    let mut number: u16 = 0;
-    let mut handled: u32 = 0;
-    let mut written: usize = 0;
-    let rest = primal::run(
-        t,
-        tape,
-        out,
-        turn::allowance(),
-        &mut stop,
-        &mut number,
-        &mut handled,
-        &mut written,
-    );
-    let unread = rest.len();
-    if number != 0 {
-        return Turn {
+    match primal::run(t, tape, out, turn::allowance()) {
+        Ok(run) => {
+            let end = TurnEnd::from(run.stop);
+            let written = turn::close(out, run.written, end);
+            Turn {
+                end,
+                handled: run.handled,
+                written,
+                unread: run.rest.len(),
+            }
+        }
+        Err(_) => Turn {
             end: TurnEnd::NotSound,
-            handled: handled,
-            written: written,
-            unread: unread,
-        };
-    }
-    let end = turn::end_of(stop);
-    let after = turn::close(out, written, end);
-    Turn {
-        end: end,
-        handled: handled,
-        written: after,
-        unread: unread,
+            handled: 0,
+            written: 0,
+            unread: tape.len(),
+        },
     }
 }

@@ -3,8 +3,10 @@
 // there, then what the rule asks, and the slots that it is about, field by field.
 #![tactic(auto)]
 
-mod fields;
-mod printing;
+mod asked;
+mod field;
+mod finding;
+mod report;
 mod s1_slots;
 mod s2_pointers;
 mod s3_singles;
@@ -13,61 +15,66 @@ mod s5_child_lists;
 mod s6_rings;
 mod s7_ways_up;
 mod s8_touches;
+mod shown;
 mod unmarked;
-mod words;
 
-use boltclover_shared::Ending;
-use rules::fault::Fault;
+use boltclover_shared::{Ending, Input};
 use std::process::ExitCode;
 use table::Table;
 use table::layout::WORDS;
 
-fn load(t: &mut Table, bytes: &[u8]) {
-    let words: &mut [u16] = t;
-    for i in 0..words.len() {
-        words[i] = text::narrow_at(bytes, 2 * i);
+const TABLE_BYTES: usize = 2 * WORDS;
+
+fn load(bytes: &[u8]) -> Table {
+    let mut table = [0; WORDS];
+    for (i, word) in table.iter_mut().enumerate() {
+        *word = text::narrow_at(bytes, 2 * i);
     }
+    table
 }
 
-fn tell(rt: &HostRuntime, t: &Table, bytes: &[u8]) -> Ending {
+// How the program ends that has something to print.
+fn print(rt: &HostRuntime, text: &[u8], ending: Ending) -> Ending {
+    if boltclover_shared::write_out(rt, text) {
+        return ending;
+    }
+    Ending::Badly
+}
+
+fn tell(rt: &HostRuntime, t: &Table) -> Ending {
     match primal::fault(t) {
-        Fault::Nowhere => printing::sound(rt),
-        Fault::At(rule, slot) => printing::fault(rt, t, bytes, rule, slot),
+        None => print(rt, b"sound\n", Ending::Well),
+        Some(fault) => print(
+            rt,
+            report::page(t, fault.rule, fault.slot).as_bytes(),
+            Ending::Badly,
+        ),
     }
 }
 
-fn tell_of(rt: &HostRuntime, bytes: &[u8]) -> Ending {
-    let mut table = [0u16; WORDS];
-    load(&mut table, bytes);
-    tell(rt, &table, bytes)
-}
-
+// What was read has another length than a table, or more bytes than were looked at.
+// Kept: a yes or no, which goes with the length whichever it is.
 fn no_table(rt: &HostRuntime, length: usize, is_more: bool) -> Ending {
-    let mut space = [0u8; 4096];
-    let line: &mut [u8] = &mut space;
-    let n = printing::write_no_table(line, length, is_more);
-    boltclover_shared::complain_first(rt, line, n);
+    let more = if is_more { " or more" } else { "" };
+    boltclover_shared::complain(
+        rt,
+        format_args!(
+            "no table: a table has {TABLE_BYTES} bytes, {WORDS} words of two, and here are {length}{more}\n"
+        ),
+    );
     Ending::Misused
 }
 
-// Of what was read the first n bytes are input.
-fn tell_read(rt: &HostRuntime, read: &[u8], n: usize) -> Ending {
-    if n != printing::TABLE_BYTES {
-        return no_table(rt, n, n == read.len());
-    }
-    if read.len() < n {
-        return no_table(rt, n, false);
-    }
-    tell_of(rt, &read[0..n])
-}
-
 fn tell_input(rt: &HostRuntime) -> Ending {
-    let mut space = [0u8; 65536];
-    let input: &mut [u8] = &mut space;
-    let n = boltclover_shared::read_behind(rt, input, 0);
-    tell_read(rt, input, n)
+    let mut input = Input::<65536>::new();
+    input.fill(rt);
+    let bytes = input.as_bytes();
+    if bytes.len() != TABLE_BYTES {
+        return no_table(rt, bytes.len(), input.is_full());
+    }
+    tell(rt, &load(bytes))
 }
 
 fn main(rt: HostRuntime) -> ExitCode {
-    boltclover_shared::end(tell_input(&rt))
+    ExitCode::from(tell_input(&rt))
 }

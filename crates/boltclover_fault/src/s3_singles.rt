@@ -1,90 +1,169 @@
 // What S3 finds wrong at an outer node with neither parent nor child.
-use crate::words::Wrong;
-use crate::{fields, words};
-use slot::{Link, Node, Slot, State, number};
+use crate::field;
+use crate::field::Field;
+use crate::finding::Finding;
+use slot::{Link, Node, Slot, State};
+use std::fmt;
 use table::Table;
 
+#[derive(Clone, Copy)]
+pub enum Wrong {
+    FreeStores(Field),
+    ShrinksAlone,
+    MatchedWithout(Field),
+    VirtualTouched(Node),
+    MatchedToItself,
+    Matched(Node, Peer),
+}
+
+// What is wrong with the peer that a node is matched to.
+#[derive(Clone, Copy)]
+pub enum Peer {
+    Inside,
+    Grows,
+    Shrinks,
+    InTree(Field),
+    MatchedToOther(Node),
+    MatchedToVirtual,
+    MatchedToNobody,
+    TouchTurned { touch: Node, back: Node },
+    PeerTouchTurned { touch: Node, back: Node },
+    ThroughTurned,
+    PeerThroughTurned,
+}
+
+impl fmt::Display for Wrong {
+    fn fmt<W: fmt::Write>(&self, f: &mut fmt::Formatter<W>) -> fmt::Result {
+        match *self {
+            Wrong::FreeStores(field) => {
+                write!(
+                    f,
+                    "Grow, with neither parent nor child, and stores a {field}"
+                )
+            }
+            Wrong::ShrinksAlone => write!(f, "Shrink, with neither parent nor child"),
+            Wrong::MatchedWithout(field) => {
+                write!(
+                    f,
+                    "Stay, with neither parent nor child, and its {field} is none"
+                )
+            }
+            Wrong::VirtualTouched(touch) => write!(
+                f,
+                "matched to a virtual vertex, having no sibling, and its peer touch is {touch}"
+            ),
+            Wrong::MatchedToItself => write!(f, "matched to itself"),
+            Wrong::Matched(peer, what) => write!(f, "matched to {peer}, {what}"),
+        }
+    }
+}
+
+impl fmt::Display for Peer {
+    fn fmt<W: fmt::Write>(&self, f: &mut fmt::Formatter<W>) -> fmt::Result {
+        match *self {
+            Peer::Inside => write!(f, "which is inside a blossom"),
+            Peer::Grows => write!(f, "which is Grow"),
+            Peer::Shrinks => write!(f, "which is Shrink"),
+            Peer::InTree(field) => write!(f, "which has a {field}"),
+            Peer::MatchedToOther(other) => write!(f, "which is matched to {other}"),
+            Peer::MatchedToVirtual => write!(f, "which is matched to a virtual vertex"),
+            Peer::MatchedToNobody => write!(f, "which has no sibling"),
+            Peer::TouchTurned { touch, back } => {
+                write!(
+                    f,
+                    "and its touch is {touch}, but the peer touch there {back}"
+                )
+            }
+            Peer::PeerTouchTurned { touch, back } => {
+                write!(
+                    f,
+                    "and its peer touch is {touch}, but the touch there {back}"
+                )
+            }
+            Peer::ThroughTurned => write!(f, "and its through is not the peer through there"),
+            Peer::PeerThroughTurned => write!(f, "and its peer through is not the through there"),
+        }
+    }
+}
+
+impl Finding for Wrong {
+    fn other(&self) -> Option<Node> {
+        match *self {
+            Wrong::Matched(peer, _) => Some(peer),
+            _ => None,
+        }
+    }
+}
+
 // The first field in which a link and that of the peer are not one another's mirror.
-fn wrong_mirror(link: Link, peer: Node, back: Link) -> Wrong {
-    if link.touch.0 != back.peer_touch.0 {
-        return words::of_slot(words::TOUCH_TURNED, peer, link.touch.0, back.peer_touch.0);
+fn wrong_mirror(link: Link, back: Link) -> Peer {
+    if link.touch != back.peer_touch {
+        Peer::TouchTurned {
+            touch: link.touch,
+            back: back.peer_touch,
+        }
+    } else if link.peer_touch != back.touch {
+        Peer::PeerTouchTurned {
+            touch: link.peer_touch,
+            back: back.touch,
+        }
+    } else if link.through != back.peer_through {
+        Peer::ThroughTurned
+    } else {
+        Peer::PeerThroughTurned
     }
-    if link.peer_touch.0 != back.touch.0 {
-        return words::of_slot(
-            words::PEER_TOUCH_TURNED,
-            peer,
-            link.peer_touch.0,
-            back.touch.0,
-        );
-    }
-    if link.through.0 != back.peer_through.0 {
-        return words::of_slot(words::THROUGH_TURNED, peer, 0, 0);
-    }
-    words::of_slot(words::PEER_THROUGH_TURNED, peer, 0, 0)
 }
 
 // A peer that stays.
-fn wrong_matched(n: Node, link: Link, peer: Node, other: Slot) -> Wrong {
-    let back = other.link;
-    if other.parent.0 != number::NO_NODE {
-        return words::of_slot_and_field(words::MATCHED_IN_TREE, words::PARENT, peer, 0);
+fn wrong_matched(n: Node, link: Link, other: Slot) -> Peer {
+    if !other.parent.is_none() {
+        Peer::InTree(Field::Parent)
+    } else if !other.first_child.is_none() {
+        Peer::InTree(Field::FirstChild)
+    } else if other.sibling == n {
+        wrong_mirror(link, other.link)
+    } else if !other.sibling.is_none() {
+        Peer::MatchedToOther(other.sibling)
+    } else if other.link.peer_touch.is_none() {
+        Peer::MatchedToVirtual
+    } else {
+        Peer::MatchedToNobody
     }
-    if other.first_child.0 != number::NO_NODE {
-        return words::of_slot_and_field(words::MATCHED_IN_TREE, words::FIRST_CHILD, peer, 0);
-    }
-    if other.sibling.0 == n.0 {
-        return wrong_mirror(link, peer, back);
-    }
-    if other.sibling.0 != number::NO_NODE {
-        return words::of_slot(words::MATCHED_TO_OTHER, peer, other.sibling.0, 0);
-    }
-    if back.peer_touch.0 == number::NO_NODE {
-        return words::of_slot(words::MATCHED_TO_VIRTUAL, peer, 0, 0);
-    }
-    words::of_slot(words::MATCHED_TO_NOBODY, peer, 0, 0)
 }
 
-fn wrong_peer(t: &Table, n: Node, link: Link, peer: Node) -> Wrong {
+fn wrong_peer(t: &Table, n: Node, link: Link, peer: Node) -> Option<Peer> {
     let other = table::get(t, peer);
-    let state = other.state;
-    match state {
-        State::Empty => words::nothing(),
-        State::Inner => words::of_slot(words::MATCHED_INSIDE, peer, 0, 0),
-        State::Stay => wrong_matched(n, link, peer, other),
-        State::Grow => words::of_slot(words::MATCHED_TO_GROW, peer, 0, 0),
-        State::Shrink => words::of_slot(words::MATCHED_TO_SHRINK, peer, 0, 0),
-        State::Damaged => words::nothing(),
+    match other.state {
+        State::Inner => Some(Peer::Inside),
+        State::Stay => Some(wrong_matched(n, link, other)),
+        State::Grow => Some(Peer::Grows),
+        State::Shrink => Some(Peer::Shrinks),
+        State::Empty | State::Damaged => None,
     }
 }
 
-fn wrong_stay(t: &Table, n: Node, s: Slot) -> Wrong {
+fn wrong_stay(t: &Table, n: Node, s: Slot) -> Option<Wrong> {
     let link = s.link;
     let peer = s.sibling;
-    let missing = fields::missing_in_half_link(link);
-    if missing != 0 {
-        return words::of_field(words::MATCHED_WITHOUT, missing, 0, 0);
+    if let Some(missing) = field::missing_in_half_link(link) {
+        Some(Wrong::MatchedWithout(missing))
+    } else if peer.is_none() {
+        Some(Wrong::VirtualTouched(link.peer_touch))
+    } else if peer == n {
+        Some(Wrong::MatchedToItself)
+    } else if link.peer_touch.is_none() {
+        Some(Wrong::MatchedWithout(Field::PeerTouch))
+    } else {
+        Some(Wrong::Matched(peer, wrong_peer(t, n, link, peer)?))
     }
-    if peer.0 == number::NO_NODE {
-        return words::of_numbers(words::VIRTUAL_TOUCHED, link.peer_touch.0, 0);
-    }
-    if peer.0 == n.0 {
-        return words::of_numbers(words::MATCHED_TO_ITSELF, 0, 0);
-    }
-    if link.peer_touch.0 == number::NO_NODE {
-        return words::of_field(words::MATCHED_WITHOUT, words::PEER_TOUCH, 0, 0);
-    }
-    wrong_peer(t, n, link, peer)
 }
 
-pub fn wrong(t: &Table, n: Node) -> Wrong {
+pub fn find(t: &Table, n: Node) -> Option<Wrong> {
     let s = table::get(t, n);
-    let state = s.state;
-    match state {
-        State::Empty => words::nothing(),
-        State::Inner => words::nothing(),
+    match s.state {
         State::Stay => wrong_stay(t, n, s),
-        State::Grow => words::of_field(words::FREE_STORES, fields::stored_beside(s), 0, 0),
-        State::Shrink => words::of_numbers(words::SHRINKS_ALONE, 0, 0),
-        State::Damaged => words::nothing(),
+        State::Grow => field::stored_beside(s).map(Wrong::FreeStores),
+        State::Shrink => Some(Wrong::ShrinksAlone),
+        _ => None,
     }
 }

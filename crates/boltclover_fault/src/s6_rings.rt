@@ -1,17 +1,71 @@
 // What S6 finds wrong with a blossom's ring, or with an inner node.
+use crate::field;
+use crate::field::Field;
+use crate::finding::Finding;
 use crate::unmarked::first_unmarked;
-use crate::words::Wrong;
-use crate::{fields, words};
 use fault_rules::s6_rings;
-use slot::{Node, number};
-use table::Table;
+use slot::Node;
+use std::fmt;
+use table::{Marks, Table};
 
+#[derive(Clone, Copy)]
+pub enum Wrong {
+    NoRing,
+    // A node, and its parent.
+    RingsOther(Node, Node),
+    RingsOuter(Node),
+    RingEnds(Node),
+    // The first node.
+    Endless(Node),
+    NotOnRing(Node),
+    RingOf(u16),
+    InnerWithout(Field),
+    InnerChild(Node),
+}
+
+impl fmt::Display for Wrong {
+    fn fmt<W: fmt::Write>(&self, f: &mut fmt::Formatter<W>) -> fmt::Result {
+        match *self {
+            Wrong::NoRing => write!(f, "a blossom without a first blossom child"),
+            Wrong::RingsOther(n, above) => {
+                write!(f, "its ring comes to {n}, whose parent is {above}")
+            }
+            Wrong::RingsOuter(n) => {
+                write!(f, "its ring comes to {n}, which is not inside a blossom")
+            }
+            Wrong::RingEnds(n) => write!(f, "its ring comes to {n}, which has no sibling"),
+            Wrong::Endless(n) => { write!(f, "its ring does not come back to its first node, {n}") }
+            Wrong::NotOnRing(n) => write!(f, "node {n} is inside it, and is not on its ring"),
+            Wrong::RingOf(count) => write!(
+                f,
+                "its ring has {count} nodes, and is to have an odd number, at least 3"
+            ),
+            Wrong::InnerWithout(field) => write!(f, "inside a blossom, and its {field} is none"),
+            Wrong::InnerChild(n) => write!(f, "inside a blossom, and has a first child, {n}"),
+        }
+    }
+}
+
+impl Finding for Wrong {
+    fn other(&self) -> Option<Node> {
+        match *self {
+            Wrong::RingsOther(n, _)
+            | Wrong::RingsOuter(n)
+            | Wrong::RingEnds(n)
+            | Wrong::Endless(n)
+            | Wrong::NotOnRing(n)
+            | Wrong::InnerChild(n) => Some(n),
+            _ => None,
+        }
+    }
+}
+
+// Kept: beside wrong_child of S5, since each rule has sentences of its own.
 fn wrong_ring_node(t: &Table, n: Node) -> Wrong {
     if !table::field::is_inner(t, n) {
-        return words::of_slot(words::RINGS_OUTER, n, 0, 0);
+        return Wrong::RingsOuter(n);
     }
-    let above = table::field::parent(t, n);
-    words::of_slot(words::RINGS_OTHER, n, above.0, 0)
+    Wrong::RingsOther(n, table::field::parent(t, n))
 }
 
 // Where the way round the ring goes wrong.
@@ -22,44 +76,39 @@ fn wrong_way_round(t: &Table, b: Node, first: Node) -> Wrong {
             return wrong_ring_node(t, here);
         }
         let after = table::field::sibling(t, here);
-        if after.0 == number::NO_NODE {
-            return words::of_slot(words::RING_ENDS, here, 0, 0);
+        if after.is_none() {
+            return Wrong::RingEnds(here);
         }
         here = after;
     }
-    words::of_slot(words::RING_ENDLESS, first, 0, 0)
+    Wrong::Endless(first)
 }
 
 fn wrong_ring(t: &Table, b: Node) -> Wrong {
     let first = table::field::get_first_blossom_child(t, b);
-    if first.0 == number::NO_NODE {
-        return words::of_numbers(words::NO_RING, 0, 0);
+    if first.is_none() {
+        return Wrong::NoRing;
     }
-    let mut seen: [u8; 256] = [0; 256];
-    let count = s6_rings::walk_ring(t, &mut seen, b, first);
-    if count == number::NO_NODE {
+    let mut seen = Marks::none();
+    let Some(count) = s6_rings::walk_ring(t, &mut seen, b, first) else {
         return wrong_way_round(t, b, first);
+    };
+    match first_unmarked(&seen, |n| s6_rings::is_inner_child(t, b, n)) {
+        Some(missing) => Wrong::NotOnRing(missing),
+        None => Wrong::RingOf(count),
     }
-    let missing = first_unmarked(t, b, &seen, true);
-    if missing.0 == number::NO_NODE {
-        return words::of_numbers(words::RING_OF, count, 0);
-    }
-    words::of_slot(words::NOT_ON_RING, missing, 0, 0)
 }
 
-fn wrong_inner(t: &Table, n: Node) -> Wrong {
-    let s = table::get(t, n);
-    let link = s.link;
-    let missing = fields::missing_in_link(link);
-    if missing != 0 {
-        return words::of_field(words::INNER_WITHOUT, missing, 0, 0);
+fn wrong_inner(s: slot::Slot) -> Wrong {
+    match field::missing_in_link(s.link) {
+        Some(missing) => Wrong::InnerWithout(missing),
+        None => Wrong::InnerChild(s.first_child),
     }
-    words::of_slot(words::INNER_CHILD, s.first_child, 0, 0)
 }
 
-pub fn wrong(t: &Table, n: Node) -> Wrong {
+pub fn find(t: &Table, n: Node) -> Option<Wrong> {
     if !s6_rings::ring_fits(t, n) {
-        return wrong_ring(t, n);
+        return Some(wrong_ring(t, n));
     }
-    wrong_inner(t, n)
+    Some(wrong_inner(table::get(t, n)))
 }

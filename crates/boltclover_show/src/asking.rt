@@ -1,84 +1,59 @@
 // Whom defects are paired with, in words: for each defect the question, and below it the listing's entry as the defect sees it.
-use crate::print;
-use boltclover_shared::Ending;
+use crate::telling::{Lines, add_answer, add_refusal};
+use boltclover_shared::{FIRST_ASKED, asked, asked_end, write_out};
 use outcome::Partner;
 use record::Record;
-use refusal::{Answer, Refusal, Side};
+use refusal::Refusal;
 use slot::Node;
 use table::Table;
-use text::reasons;
-
-// An answer record in words.
-fn write_record(lines: &mut [u8], pos: usize, answer: Record) -> usize {
-    let mut space = [0u8; 32];
-    let out: &mut [u8] = &mut space;
-    match primal::write_answer(out, 0, answer) {
-        Answer::Done(written) => print::write_lines(lines, pos, out, written),
-        Answer::Refused(_, _) => pos,
-    }
-}
+use text::{Nobody, Question, Reason};
 
 // What stands at a number that is no present defect.
-fn reason(t: &Table, d: Node) -> usize {
-    if 256 <= d.0 {
-        return reasons::ASKED_PAST_THE_TABLE;
-    }
-    if table::field::is_blossom(t, d) {
-        return reasons::ASKED_BLOSSOM;
-    }
-    reasons::ASKED_EMPTY
-}
-
-fn write_refusal(lines: &mut [u8], pos: usize, t: &Table, d: Node, refusal: Refusal) -> usize {
-    let number = refusal::number(refusal);
-    if number != 3 {
-        return write_record(lines, pos, Record::End(number, Side::Neither));
-    }
-    let begin = table::counts::begin(t);
-    text::write_reason(lines, pos, reason(t, d), d.0, begin, 0, 0)
-}
-
-fn write_partner(lines: &mut [u8], pos: usize, t: &Table, d: Node, answer: Partner) -> usize {
-    match answer {
-        Partner::Nobody => text::partner::write_nobody(lines, pos, d.0),
-        Partner::Defect(pair) => write_record(lines, pos, Record::Pair(pair)),
-        Partner::Virtual(pair) => write_record(lines, pos, Record::VirtualPair(pair)),
-        Partner::Refused(refusal) => write_refusal(lines, pos, t, d, refusal),
+fn no_defect(t: &Table, node: Node) -> Reason {
+    if 256 <= node.0 {
+        Reason::PastTheTable(node)
+    } else if table::field::is_blossom(t, node) {
+        let begin = table::counts::begin(t);
+        Reason::NoDefect { node, begin }
+    } else {
+        Reason::EmptyDefectSlot(node)
     }
 }
 
-fn is_refused(answer: Partner) -> bool {
-    match answer {
-        Partner::Nobody => false,
-        Partner::Defect(_) => false,
-        Partner::Virtual(_) => false,
-        Partner::Refused(_) => true,
+fn why(t: &Table, d: Node, refusal: Refusal) -> Option<Reason> {
+    match refusal {
+        Refusal::NoSuchNode => Some(no_defect(t, d)),
+        _ => None,
+    }
+}
+
+fn add_partner(lines: &mut Lines, d: Node, partner: Option<Partner>) {
+    match partner {
+        None => lines.add(Nobody(d)),
+        Some(Partner::Defect(pair)) => add_answer(lines, Record::Pair(pair)),
+        Some(Partner::Virtual(pair)) => add_answer(lines, Record::VirtualPair(pair)),
     }
 }
 
 // Whether it was answered, and the answer could be written.
 fn ask(rt: &HostRuntime, t: &Table, d: Node) -> bool {
-    let mut space = [0u8; 4096];
-    let lines: &mut [u8] = &mut space;
-    let p = text::partner::write_question(lines, 0, d.0);
+    let mut lines = Lines::new();
+    lines.add(Question(d));
     let answer = primal::partner(t, d);
-    let n = write_partner(lines, p, t, d, answer);
-    if !boltclover_shared::write_first(rt, lines, n) {
-        return false;
+    match answer {
+        Ok(partner) => add_partner(&mut lines, d, partner),
+        Err(refusal) => add_refusal(&mut lines, refusal.into(), why(t, d, refusal)),
     }
-    !is_refused(answer)
+    write_out(rt, lines.as_bytes()) && answer.is_ok()
 }
 
-// Each defect that the arguments name, after a tape that ended so.
-pub fn ask_all(rt: &HostRuntime, t: &Table, ending: Ending) -> Ending {
+// Each defect that the arguments name: whether all were answered.
+pub fn ask_all(rt: &HostRuntime, t: &Table) -> bool {
     let mut all_answered = true;
-    for i in boltclover_shared::FIRST_ASKED..boltclover_shared::asked_end(rt) {
-        if !ask(rt, t, Node(boltclover_shared::asked(rt, i))) {
+    for i in FIRST_ASKED..asked_end(rt) {
+        if !ask(rt, t, asked(rt, i)) {
             all_answered = false;
         }
     }
-    if all_answered {
-        return ending;
-    }
-    Ending::Badly
+    all_answered
 }

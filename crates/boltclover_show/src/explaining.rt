@@ -1,16 +1,16 @@
-// A refusal in words: which node or field of the request, and what stands there. The number is given by the call that refused; here
-// it is only told what it was given for, on the same table, which the refusal left as it was.
-
-use crate::reason::Reason;
+// A refusal in words: which node or field of the request, and what stands there. The refusal is given by the call; here it is only told
+// what it was given for, on the same table, which the refusal left as it was. None where the refusal's own words say all there is to say.
+use crate::{conflict, expansion, virtual_conflict};
 use record::Request;
+use refusal::Refused;
 use table::Table;
+use text::Reason;
 
-pub fn why(t: &Table, request: Request, number: u16, side: u16) -> Reason {
+pub fn why(t: &Table, request: Request, refused: Refused) -> Option<Reason> {
     match request {
-        Request::Conflict(c) => crate::conflict::why(t, c, number, side),
-        Request::VirtualConflict(c) => crate::virtual_conflict::why(t, c, number),
-        Request::Expansion(e) => crate::expansion::why(t, e, number),
-        Request::Reset => crate::reason::unknown(),
-        Request::List => crate::reason::unknown(),
+        Request::Conflict(c) => conflict::why(t, c, refused),
+        Request::VirtualConflict(c) => virtual_conflict::why(t, c, refused.refusal),
+        Request::Expansion(e) => expansion::why(t, e.node, refused.refusal),
+        Request::Reset | Request::List => None,
     }
 }

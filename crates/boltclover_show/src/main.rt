@@ -7,29 +7,48 @@ mod asking;
 mod conflict;
 mod expansion;
 mod explaining;
-mod node;
-mod print;
-mod reason;
+mod named;
+mod serving;
+mod telling;
 mod turns;
 mod virtual_conflict;
 
 use boltclover_shared::Ending;
-use refusal::Answer;
 use std::process::ExitCode;
 use table::Table;
+use text::BadRecord;
+use turns::Stop;
+
+fn complain(rt: &HostRuntime, bad: BadRecord) {
+    boltclover_shared::complain(rt, format_args!("bad record {bad}\n"));
+}
 
 fn show(rt: &HostRuntime, t: &mut Table) -> Ending {
-    let ending = turns::show_tape(rt, t, true);
-    match ending {
-        Ending::Well => print::listing(rt, t, Ending::Well),
-        Ending::Badly => print::listing(rt, t, Ending::Badly),
-        Ending::Misused => Ending::Misused,
+    let served = turns::serve_tape(rt, |record, request| telling::tell(rt, t, record, request));
+    if let Err(Stop::BadRecord(bad)) = served {
+        telling::tell_bad_record(rt, bad);
+        complain(rt, bad);
     }
+    let listed = telling::tell_listing(rt, t);
+    if listed && served.is_ok() {
+        return Ending::Well;
+    }
+    Ending::Badly
 }
 
 fn ask(rt: &HostRuntime, t: &mut Table) -> Ending {
-    let ending = turns::show_tape(rt, t, false);
-    asking::ask_all(rt, t, ending)
+    let served = turns::serve_tape(rt, |_record, request| {
+        serving::serve_silently(t, request);
+        true
+    });
+    if let Err(Stop::BadRecord(bad)) = served {
+        complain(rt, bad);
+    }
+    let answered = asking::ask_all(rt, t);
+    if answered && served.is_ok() {
+        return Ending::Well;
+    }
+    Ending::Badly
 }
 
 fn show_or_ask(rt: &HostRuntime, t: &mut Table) -> Ending {
@@ -39,15 +58,17 @@ fn show_or_ask(rt: &HostRuntime, t: &mut Table) -> Ending {
     show(rt, t)
 }
 
-fn show_from_begin(rt: &HostRuntime) -> Ending {
-    let mut table = [0u16; table::layout::WORDS];
-    let begin = boltclover_shared::begin(rt, tape::turn::begin());
+fn run(rt: &HostRuntime) -> Ending {
+    let mut table = [0; table::layout::WORDS];
+    let Some(begin) = boltclover_shared::begin(rt, tape::turn::begin()) else {
+        return boltclover_shared::end_bad_begin(rt);
+    };
     match primal::make(&mut table, begin) {
-        Answer::Done(_) => show_or_ask(rt, &mut table),
-        Answer::Refused(_, _) => boltclover_shared::end_bad_begin(rt),
+        Ok(_) => show_or_ask(rt, &mut table),
+        Err(_) => boltclover_shared::end_bad_begin(rt),
     }
 }
 
 fn main(rt: HostRuntime) -> ExitCode {
-    boltclover_shared::end(show_from_begin(&rt))
+    ExitCode::from(run(&rt))
 }

@@ -1,118 +1,73 @@
-// A tape of any length, read and served in turns of 65,536 bytes: aloud, with each record printed, or in silence.
-use crate::print;
-use boltclover_shared::Ending;
-use record::Reading;
-use table::Table;
+// A tape of any length, read in turns of 65,536 bytes; its records are served one after another.
+use boltclover_shared::Input;
+use record::Request;
+use text::{BadRecord, RecordFault};
+
+// The bytes of a turn.
+const ROOM: usize = 65536;
 
 // No request's record fills more bytes.
 const MOST: usize = 20;
 
-// How a turn ends: the tape goes on, or it is at its end, or something was wrong, which was said.
-const GOES_ON: u8 = 0;
-
-const AT_END: u8 = 1;
-
-const WRONG: u8 = 2;
-
-// How it ended, and the bytes of it that were read.
+// Why the rest of a tape is not served.
 #[derive(Clone, Copy)]
-struct Turn {
-    ended: u8,
-    used: usize,
+pub enum Stop {
+    BadRecord(BadRecord),
+    // What a request answers could not be written, which was said.
+    NotWritten,
 }
 
-// The records in the bytes of a turn. While the tape goes on, a record that could stand beyond its end is left for the next turn.
-fn show_records(
-    rt: &HostRuntime,
-    t: &mut Table,
-    tape: &[u8],
-    start: u64,
-    is_last: bool,
-    aloud: bool,
-) -> Turn {
-    let mut rest = tape;
-    let mut used: usize = 0;
-    while 0 < rest.len() {
-        if rest.len() < MOST {
-            if !is_last {
-                return Turn {
-                    ended: GOES_ON,
-                    used: used,
-                };
-            }
-        }
-        match primal::read_record(rest) {
-            Reading::Request(request, size) => {
-                if !print::record(rt, t, rest, size, request, aloud) {
-                    return Turn {
-                        ended: WRONG,
-                        used: used,
-                    };
-                }
-                rest = &rest[size..];
-                used = tape.len() - rest.len();
-            }
-            Reading::Refused(_) => {
-                print::bad_record(rt, place(start, used), rest, aloud);
-                return Turn {
-                    ended: WRONG,
-                    used: used,
-                };
-            }
-        }
-    }
-    Turn {
-        ended: end_of(is_last),
-        used: used,
-    }
-}
-
-fn end_of(is_last: bool) -> u8 {
-    if is_last {
-        return AT_END;
-    }
-    GOES_ON
-}
-
-// No tape is so long that the sum would wrap.
+// The byte of a tape that stands so far behind another. No tape is so long that the sum would wrap.
 fn place(start: u64, used: usize) -> u64 {
     start.wrapping_add(used as u64)
 }
 
-fn show_turn(
-    rt: &HostRuntime,
-    t: &mut Table,
-    tape: &[u8],
-    n: usize,
+// Serves the records in the bytes of a turn, and returns how many bytes they fill. While the tape goes on, a record that could stand
+// beyond its end is left for the next turn.
+// Kept: whether the tape goes on is a yes or no; and each record has a length of its own, so there is nothing to count its loop by.
+fn serve_turn<F: FnMut(&[u8], Request) -> bool>(
+    bytes: &[u8],
+    goes_on: bool,
     start: u64,
-    aloud: bool,
-) -> Turn {
-    if tape.len() < n {
-        return Turn {
-            ended: WRONG,
-            used: 0,
+    serve: &mut F,
+) -> Result<usize, Stop>
+    requires { (state : F) (bytes request : _) → F.pre state bytes request }
+{
+    let mut rest = bytes;
+    while !rest.is_empty() && !(goes_on && rest.len() < MOST) {
+        let Ok((request, size)) = primal::read_record(rest) else {
+            return Err(Stop::BadRecord(BadRecord {
+                at: place(start, bytes.len() - rest.len()),
+                fault: RecordFault::of(rest),
+            }));
         };
+        if !serve(&rest[..size], request) {
+            return Err(Stop::NotWritten);
+        }
+        rest = &rest[size..];
     }
-    show_records(rt, t, &tape[0..n], start, n < tape.len(), aloud)
+    Ok(bytes.len() - rest.len())
 }
 
-// A proved loop has to end, and nothing says that a tape does: no tape uses up so many turns.
-pub fn show_tape(rt: &HostRuntime, t: &mut Table, aloud: bool) -> Ending {
-    let mut space = [0u8; 65536];
-    let tape: &mut [u8] = &mut space;
-    let mut have: usize = 0;
-    let mut start: u64 = 0;
+// Serves all records of the tape by a call, which tells whether to go on. A proved loop has to end, and nothing says that a tape does:
+// no tape uses up so many turns.
+pub fn serve_tape<F: FnMut(&[u8], Request) -> bool>(
+    rt: &HostRuntime,
+    mut serve: F,
+) -> Result<(), Stop>
+    requires { (state : F) (bytes request : _) → F.pre state bytes request }
+{
+    let mut tape = Input::<ROOM>::new();
+    let mut start = 0;
     for _ in 0..u64::MAX {
-        let n = boltclover_shared::read_behind(rt, tape, have);
-        let turn = show_turn(rt, t, tape, n, start, aloud);
-        if turn.ended == AT_END {
-            return Ending::Well;
+        tape.fill(rt);
+        let goes_on = tape.is_full();
+        let used = serve_turn(tape.as_bytes(), goes_on, start, &mut serve)?;
+        if !goes_on {
+            return Ok(());
         }
-        if turn.ended == WRONG {
-            return Ending::Badly;
-        }
-        start = place(start, turn.used);
-        have = boltclover_shared::keep_rest(tape, turn.used, n);
+        start = place(start, used);
+        tape.pass(used);
     }
-    Ending::Badly
+    Ok(())
 }

@@ -1,28 +1,27 @@
 // Why a virtual conflict was refused.
-use crate::node;
-use crate::reason::{Reason, of_node, unknown};
+use crate::named::Named;
 use record::VirtualConflict;
+use refusal::Refusal;
 use request_judging::{nodes, states};
 use slot::Node;
 use table::Table;
-use text::reasons;
+use text::Reason;
 
 fn not_growing(t: &Table, node: Node) -> Reason {
     if states::is_minus(nodes::seen_state(t, node)) {
-        return of_node(reasons::SHRINKS, node);
+        return Reason::NodeShrinks(node);
     }
-    of_node(reasons::STAYS, node)
+    Reason::NodeStays(node)
 }
 
-pub fn why(t: &Table, c: VirtualConflict, number: u16) -> Reason {
-    let node = c.node;
-    let touch = c.touch;
-    let vertex = c.vertex;
-    match number {
-        3 => node::no_side(t, node, vertex),
-        4 => node::not_outer(t, node),
-        6 => node::touch(t, node, touch),
-        7 => not_growing(t, node),
-        _ => unknown(),
+pub fn why(t: &Table, c: VirtualConflict, refusal: Refusal) -> Option<Reason> {
+    let named = Named {
+        node: c.node,
+        touch: c.touch,
+        vertex: c.vertex,
+    };
+    match refusal {
+        Refusal::NotGrowing => Some(not_growing(t, c.node)),
+        _ => named.why(t, refusal),
     }
 }

@@ -2,41 +2,23 @@
 // its requests to standard output. Every line that is no request is named on standard error, and then the tape is not to be used.
 #![tactic(auto)]
 
-mod lines;
 mod turns;
 
 use boltclover_shared::Ending;
 use std::process::ExitCode;
-use turns::Count;
 
-fn write_count(line: &mut [u8], count: Count) -> usize {
-    let p = text::write_named(line, 0, b"", count.bad);
-    text_decimals::write_bytes(
-        line,
-        p,
-        b" of its lines cannot be read, so no tape is written\n",
-    )
-}
-
-fn end_bad_text(rt: &HostRuntime, count: Count) -> Ending {
-    let mut space = [0u8; 4096];
-    let line: &mut [u8] = &mut space;
-    let n = write_count(line, count);
-    boltclover_shared::complain_first(rt, line, n);
-    Ending::Badly
-}
-
-fn make_tape(rt: &HostRuntime) -> Ending {
-    let count = turns::read_all(rt);
-    if 0 < count.bad {
-        return end_bad_text(rt, count);
+fn make_tape(rt: &HostRuntime) -> Result<Ending, Ending> {
+    let bad = turns::read_all(rt)?.bad;
+    if bad == 0 {
+        return Ok(Ending::Well);
     }
-    if !count.is_written {
-        return Ending::Badly;
-    }
-    Ending::Well
+    boltclover_shared::complain(
+        rt,
+        format_args!("{bad} of its lines cannot be read, so no tape is written\n"),
+    );
+    Ok(Ending::Badly)
 }
 
 fn main(rt: HostRuntime) -> ExitCode {
-    boltclover_shared::end(make_tape(&rt))
+    ExitCode::from(make_tape(&rt).unwrap_or_else(|ending| ending))
 }

@@ -1,159 +1,121 @@
 // A text of any length, read in turns of 65,536 bytes. A request's line is longer than its record, so the tape of a turn has room in
 // as many bytes.
-use crate::lines;
+ghost use Rattle.std.specs.Prelude.{◌≤◌, length};
+
+use boltclover_shared::{Ending, Input};
+use text::RECORD_ROOM;
+use text_decimals::Page;
 
 // The bytes of a turn.
 const ROOM: usize = 65536;
 
-// What was read so far: lines, and how many of them are bad; and whether the tape could be written.
+// The lines that were read so far, and how many of them are bad. No text has so many that a sum would go past the largest number.
 #[derive(Clone, Copy)]
 pub struct Count {
-    pub lines: u64,
-    pub bad: u64,
-    pub is_written: bool,
-}
-
-// The lines of a turn: what was counted, the bytes of text that were read and those of the tape that were made.
-#[derive(Clone, Copy)]
-struct Turn {
     lines: u64,
-    bad: u64,
-    used: usize,
-    made: usize,
+    pub bad: u64,
 }
 
-// No text has so many lines that the sum would wrap.
-fn one_more(n: u64) -> u64 {
-    n.wrapping_add(1)
+impl Count {
+    // One line more, which has this number.
+    fn next_line(&mut self) -> u64 {
+        self.lines = self.lines.saturating_add(1);
+        self.lines
+    }
+
+    fn add_bad(&mut self) {
+        self.bad = self.bad.saturating_add(1);
+    }
 }
 
-// Reads a line at a position of the tape.
-fn read_at(
+// Where the lines of a turn end. While the text goes on, what follows the last line feed is left for the next turn.
+// Kept: whether the turn is the last is a yes or no, and both answers go with the same text.
+fn lines_end(text: &[u8], is_last: bool) -> usize
+    ensures { result ≤ length text.now }
+{
+    if is_last {
+        return text.len();
+    }
+    match text.iter().rposition(|byte| *byte == b'\n') {
+        Some(at) => at + 1,
+        None => 0,
+    }
+}
+
+// Reads a line: its record goes to the tape, and what is wrong with a bad one is told.
+fn read_line(rt: &HostRuntime, line: &[u8], tape: &mut Page<ROOM>, count: &mut Count) {
+    let mut room = [0u8; RECORD_ROOM];
+    let number = count.next_line();
+    match text::read_line(line, &mut room) {
+        Ok(Some(record)) => tape.push(record),
+        Ok(None) => {}
+        Err(fault) => {
+            count.add_bad();
+            boltclover_shared::complain(rt, format_args!("line {number}, {fault}\n"));
+        }
+    }
+}
+
+// Reads the lines of a turn, makes their tape, and returns how many bytes of the text they fill.
+// Kept: a yes or no, handed on to lines_end.
+fn read_turn(
     rt: &HostRuntime,
-    line: &[u8],
-    number: u64,
-    tape: &mut [u8],
-    pos: usize,
-) -> Option<usize> {
-    if tape.len() < pos {
-        return None;
+    text: &[u8],
+    is_last: bool,
+    tape: &mut Page<ROOM>,
+    count: &mut Count,
+) -> usize {
+    let end = lines_end(text, is_last);
+    for line in text[..end].split_inclusive(|byte| *byte == b'\n') {
+        read_line(rt, line.strip_suffix(b"\n").unwrap_or(line), tape, count);
     }
-    lines::read(rt, line, number, &mut tape[pos..])
+    end
 }
 
-// While the text goes on, what follows the last line feed is left for the next turn.
-fn read_lines(rt: &HostRuntime, text: &[u8], is_last: bool, tape: &mut [u8], count: Count) -> Turn {
-    let mut at: usize = 0;
-    let mut pos: usize = 0;
-    let mut number = count.lines;
-    let mut bad = count.bad;
-    while at < text.len() {
-        let end = text::next(text, at, b'\n', true);
-        if end == text.len() {
-            if !is_last {
-                break;
-            }
-        }
-        number = one_more(number);
-        let size = read_at(rt, &text[at..end], number, tape, pos);
-        at = end + 1;
-        match size {
-            Some(size) if size <= tape.len() - pos => pos += size,
-            _ => bad = one_more(bad),
-        }
-    }
-    Turn {
-        lines: number,
-        bad: bad,
-        used: at,
-        made: pos,
-    }
-}
-
-fn read_turn(rt: &HostRuntime, text: &[u8], n: usize, tape: &mut [u8], count: Count) -> Turn {
-    if text.len() < n {
-        return Turn {
-            lines: count.lines,
-            bad: count.bad,
-            used: 0,
-            made: 0,
-        };
-    }
-    read_lines(rt, &text[0..n], n < text.len(), tape, count)
-}
-
-// A tape with a bad line is written no further.
-fn write_made(rt: &HostRuntime, tape: &[u8], turn: Turn) -> bool {
-    if 0 < turn.bad {
-        return true;
-    }
-    boltclover_shared::write_first(rt, tape, turn.made)
-}
-
-// The place of the first line feed among the first n bytes; or n.
-fn line_end(text: &[u8], n: usize) -> usize {
-    if text.len() < n {
-        return n;
-    }
-    text::next(&text[..n], 0, b'\n', true)
-}
-
-// Passes over the rest of a line that is too long. What was read behind it is moved to the start.
-fn pass_line(rt: &HostRuntime, text: &mut [u8]) -> usize {
+// Passes over the rest of a line that is too long.
+fn pass_line(rt: &HostRuntime, text: &mut Input<ROOM>) {
     for _ in 0..u64::MAX {
-        let n = boltclover_shared::read_input(rt, text);
-        let end = line_end(text, n);
-        if end < n {
-            return boltclover_shared::keep_rest(text, end + 1, n);
+        text.pass(ROOM);
+        text.fill(rt);
+        if let Some(end) = text.as_bytes().iter().position(|byte| *byte == b'\n') {
+            text.pass(end + 1);
+            return;
         }
-        if n < text.len() {
-            return 0;
+        if !text.is_full() {
+            text.pass(ROOM);
+            return;
         }
     }
-    0
 }
 
-fn pass_long_line(rt: &HostRuntime, text: &mut [u8], number: u64) -> usize {
-    lines::complain_of_length(rt, number);
-    pass_line(rt, text)
+fn pass_long_line(rt: &HostRuntime, text: &mut Input<ROOM>, count: &mut Count) {
+    let number = count.next_line();
+    count.add_bad();
+    boltclover_shared::complain(rt, format_args!("line {number}: longer than 65535 bytes\n"));
+    pass_line(rt, text);
 }
 
-// A proved loop has to end, and nothing says that a text does: no text uses up so many turns.
-pub fn read_all(rt: &HostRuntime) -> Count {
-    let mut text_space = [0u8; ROOM];
-    let text: &mut [u8] = &mut text_space;
-    let mut tape_space = [0u8; ROOM];
-    let tape: &mut [u8] = &mut tape_space;
-    let mut have: usize = 0;
-    let mut count = Count {
-        lines: 0,
-        bad: 0,
-        is_written: true,
-    };
+// Tells how many lines there are; or that the tape could not be written, which was said. A tape with a bad line is written no
+// further. A proved loop has to end, and nothing says that a text does: no text uses up so many turns.
+pub fn read_all(rt: &HostRuntime) -> Result<Count, Ending> {
+    let mut text = Input::<ROOM>::new();
+    let mut count = Count { lines: 0, bad: 0 };
     for _ in 0..u64::MAX {
-        let n = boltclover_shared::read_behind(rt, text, have);
-        let turn = read_turn(rt, text, n, tape, count);
-        count = Count {
-            lines: turn.lines,
-            bad: turn.bad,
-            is_written: write_made(rt, tape, turn),
-        };
-        if !count.is_written {
-            return count;
+        text.fill(rt);
+        let is_last = !text.is_full();
+        let mut tape = Page::<ROOM>::new();
+        let used = read_turn(rt, text.as_bytes(), is_last, &mut tape, &mut count);
+        if count.bad == 0 && !boltclover_shared::write_out(rt, tape.as_bytes()) {
+            return Err(Ending::Badly);
         }
-        if n < text.len() {
-            return count;
+        if is_last {
+            return Ok(count);
         }
-        if turn.used == 0 {
-            count = Count {
-                lines: one_more(turn.lines),
-                bad: one_more(turn.bad),
-                is_written: true,
-            };
-            have = pass_long_line(rt, text, count.lines);
+        if used == 0 {
+            pass_long_line(rt, &mut text, &mut count);
         } else {
-            have = boltclover_shared::keep_rest(text, turn.used, n);
+            text.pass(used);
         }
     }
-    count
+    Ok(count)
 }

@@ -1,17 +1,19 @@
 -- The search for the lowest slot and for the first rule, step by step as the code takes it.
-use mathlib.Core.Path.{◌≡◌, refl, ◌∙◌}
+use mathlib.Core.Path.{◌≡◌, refl}
 use mathlib.Core.Bool.{true, false}
+use mathlib.Core.List.{List}
 use Prim.Native.Nat.{ℕ, ◌+◌, ◌-◌, ◌≤◌, ◌<◌}
 use native.Mathlib.Numerals.{add-one}
+use lib.ListN.{length, get_or, drop}
+use Rattle.std.proofs.lemmas.List.{at_drop_more, at_drop_all}
+use Rattle.std.specs.Prelude.{Option, None, Some}
+use Rattle.std.specs.Option.{MatchOption}
 use Rattle.lists.proofs.Budget.{one_left, none_left}
-use Rattle.slot.specs.declared.number.Node.{Node}
 use Rattle.table.specs.Table.{Table}
 use Rattle.rules.specs.declared.fault.Rule.{Rule}
-use Rattle.rules.specs.declared.fault.Rule.TheVariants.{S1, S2, S3, S4, S5, S6, S7, S8}
 use Rattle.rules.specs.declared.fault.Fault.{Fault}
-use Rattle.rules.specs.declared.fault.Fault.TheVariants.{Nowhere, At}
 use Rattle.rules.specs.Sound.{holds}
-use Rattle.rules.specs.Fault.{no_fault, fault_at, lowest_fault, or_else, first_fault_of, first_fault}
+use Rattle.rules.specs.Fault.{no_fault, fault_at, lowest_fault, or_else, first_fault_of}
 
 module _ (r : Rule) (t : Table) (i : ℕ) where
   pub none_lower : 256 ≤ i → lowest_fault r t (256 - i) i ≡ no_fault
@@ -26,42 +28,22 @@ module _ (r : Rule) (t : Table) (i : ℕ) where
   unfolding lowest_fault
   lowest_later h q = rw (one_left i 256 h, q, add-one)
 
-module _ (found g : Fault) where
-  pub search_goes_on : (r : Fault) → found ≡ Nowhere → r ≡ g → r ≡ or_else found g
-  search_goes_on r e h = h ∙ rw e
+-- the fault found so far, or the one that is found next, before those of the rules that are left
+pub found_next :
+    (found next low rest : Option Fault)
+    → MatchOption found (next ≡ low) (λ f. next ≡ Some f)
+    → or_else next rest ≡ or_else found (or_else low rest)
+found_next None next low rest e = rw e
+found_next (Some f) next low rest e = rw e
 
-  pub earlier_kept : (r : Rule) (n : Node) → found ≡ At r n → At r n ≡ or_else found g
-  earlier_kept r n e = rw e
+pub found_all : (found : Option Fault) → or_else found no_fault ≡ found
+found_all None = refl
+found_all (Some f) = refl
 
--- the one found first, whether the search goes on from it or comes to it
-folded :
-    (a b c d e f g h : Fault)
-    → or_else (or_else (or_else (or_else (or_else (or_else (or_else a b) c) d) e) f) g) h
-    ≡ or_else a (or_else b (or_else c (or_else d (or_else e (or_else f (or_else g (or_else h no_fault)))))))
-folded (At r n) b c d e f g h = refl
-folded Nowhere (At r n) c d e f g h = refl
-folded Nowhere Nowhere (At r n) d e f g h = refl
-folded Nowhere Nowhere Nowhere (At r n) e f g h = refl
-folded Nowhere Nowhere Nowhere Nowhere (At r n) f g h = refl
-folded Nowhere Nowhere Nowhere Nowhere Nowhere (At r n) g h = refl
-folded Nowhere Nowhere Nowhere Nowhere Nowhere Nowhere (At r n) h = refl
-folded Nowhere Nowhere Nowhere Nowhere Nowhere Nowhere Nowhere (At r n) = refl
-folded Nowhere Nowhere Nowhere Nowhere Nowhere Nowhere Nowhere Nowhere = refl
-
-pub in_order :
-    (t : Table) (a b c d e f g h : Fault)
-    → a ≡ lowest_fault S1 t 256 0
-    → b ≡ or_else a (lowest_fault S2 t 256 0)
-    → c ≡ or_else b (lowest_fault S3 t 256 0)
-    → d ≡ or_else c (lowest_fault S4 t 256 0)
-    → e ≡ or_else d (lowest_fault S5 t 256 0)
-    → f ≡ or_else e (lowest_fault S6 t 256 0)
-    → g ≡ or_else f (lowest_fault S7 t 256 0)
-    → h ≡ or_else g (lowest_fault S8 t 256 0)
-    → h ≡ first_fault t
+pub rules_left : (d : Rule) (t : Table) (rs : List Rule) (i : ℕ) → i < length rs → first_fault_of (drop i rs) t ≡ or_else (lowest_fault (get_or rs i d) t 256 0) (first_fault_of (drop (i + 1) rs) t)
 unfolding first_fault_of
-in_order t a b c d e f g h p q r s u v w x =
-    x
-    ∙ rw (w, v, u, s, r, q, p)
-    (folded (lowest_fault S1 t 256 0) (lowest_fault S2 t 256 0) (lowest_fault S3 t 256 0) (lowest_fault S4 t 256 0)
-    (lowest_fault S5 t 256 0) (lowest_fault S6 t 256 0) (lowest_fault S7 t 256 0) (lowest_fault S8 t 256 0))
+rules_left d t rs i h = at_drop_more (λ (qs : List Rule). first_fault_of qs t) rs i d h
+
+pub no_rule_left : (t : Table) (rs : List Rule) (i : ℕ) → length rs ≤ i → first_fault_of (drop i rs) t ≡ no_fault
+unfolding first_fault_of
+no_rule_left t rs i h = at_drop_all (λ (qs : List Rule). first_fault_of qs t) rs i h

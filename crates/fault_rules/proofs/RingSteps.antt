@@ -9,7 +9,6 @@ use lib.ListN.{length, length-replicate}
 use borrow.Author.Tests.{eq-eqb, ne_eqb}
 use Rattle.slot.specs.Number.{none}
 use Rattle.table.specs.Table.{Table, at}
-use Rattle.table.specs.Nodes.{is_blossom, present}
 use Rattle.table.specs.Marks.{marked, unmarked}
 use Rattle.table.proofs.MarkLaws.{marked-none}
 use Rattle.rules.specs.Slots.{is_some, next}
@@ -20,7 +19,7 @@ use Rattle.sound_walks.specs.Numbers.{is_odd_ring}
 use Rattle.sound_walks.specs.Pass.{all_from}
 use Rattle.sound_walks.proofs.Truth.{by_cases}
 use Rattle.sound_walks.proofs.Walks.{unbroken, good, walk-length, marking-count, marking-seen}
-use Rattle.fault_rules.specs.Walked.{is_ring_node, ring_listed, ring_fits}
+use Rattle.fault_rules.specs.Walked.{is_ring_node, ring_listed}
 use Rattle.fault_rules.proofs.ChildListSteps.{same_tests}
 
 all_of_both : (p q : ℕ → Bool) (xs : List ℕ) → all_in (λ n. p n && q n) xs ≡ (all_in p xs && all_in q xs)
@@ -98,17 +97,3 @@ module _ (t : Table) (b : ℕ) where
           q
           ∙ same_tests (ring_listed t l b) (λ j. is_inner_child t b j ⇒ is_in j (ring_of t b)) (λ j p. rw (walked_marks f j p))
           ∙ sym (ring_tests ∙ rw (f, o) (and-true all_on_ring))
-
--- ---- where a ring is asked for
-
-pub asked : (t : Table) (n : ℕ) (x y b : Bool) → x ≡ is_blossom t n → y ≡ present t n → b ≡ (x && y) → b ≡ (is_blossom t n && present t n)
-asked t n x y b e f g = g ∙ rw (e, f)
-
-module _ (t : Table) (n : ℕ) (b : Bool) (e : b ≡ (is_blossom t n && present t n)) where
-  pub no_ring_asked : b ≡ false → true ≡ ring_fits t n
-  unfolding ring_fits
-  no_ring_asked h = rw (← e, h)
-
-  pub ring_asked : (r : Bool) → b ≡ true → r ≡ ring_holds t n → r ≡ ring_fits t n
-  unfolding ring_fits
-  ring_asked r h p = p ∙ rw (← e, h)

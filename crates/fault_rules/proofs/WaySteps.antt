@@ -1,25 +1,24 @@
--- The way up from a node, step by step as the code takes it.
-use mathlib.Core.Path.{◌≡◌, refl}
-use mathlib.Core.Bool.{true, false}
-use Prim.Native.Nat.{ℕ, zero, suc, ◌-◌}
-use native.Mathlib.Omega.{arith}
+-- The way up from a node, one step at a time, as the code takes it: after i steps 257 - i are left.
+use mathlib.Core.Path.{◌≡◌}
+use mathlib.Core.Bool.{true}
+use Prim.Native.Nat.{ℕ, zero, suc, ◌+◌, ◌-◌, ◌≤◌, ◌<◌}
+use native.Mathlib.Numerals.{add-one}
+use lib.Dec.{eqb}
 use borrow.Author.Tests.{eq-eqb, ne_eqb}
-use Rattle.lists.proofs.Budget.{fewer}
+use Rattle.lists.proofs.Budget.{one_left, none_left}
 use Rattle.slot.specs.Number.{none}
 use Rattle.rules.specs.Walk.{ends}
 
-module _ (along : ℕ → ℕ) (n : ℕ) where
-  pub ends_here : (k : ℕ) → n ≡ none → ends k along n ≡ true
-  unfolding ends
-  ends_here zero e = eq-eqb n none e
-  ends_here (suc k) e = rw (eq-eqb n none e)
+pub ends_here : (next : ℕ → ℕ) (n k : ℕ) → n ≡ none → ends k next n ≡ true
+unfolding ends
+ends_here next n zero e = eq-eqb n none e
+ends_here next n (suc k) e = rw (eq-eqb n none e)
 
-  pub ends_spent : (k : ℕ) → (n ≡ none → ⊥) → k ≡ 0 → ends k along n ≡ false
+module _ (i : ℕ) (next : ℕ → ℕ) (n : ℕ) where
+  pub ends_spent : 257 ≤ i → ends (257 - i) next n ≡ eqb n none
   unfolding ends
-  ends_spent zero h z = ne_eqb n none h
-  ends_spent (suc k) h z = absurd (omega arith)
+  ends_spent h = rw (none_left i 257 h)
 
-  pub ends_more : (k x : ℕ) → (n ≡ none → ⊥) → (k ≡ 0 → ⊥) → x ≡ along n → ends (k - 1) along x ≡ ends k along n
+  pub ends_more : i < 257 → (n ≡ none → ⊥) → ends (257 - i) next n ≡ ends (257 - (i + 1)) next (next n)
   unfolding ends
-  ends_more zero x h z e = absurd (z refl)
-  ends_more (suc k) x h z e = rw (fewer k, e, ne_eqb n none h)
+  ends_more h d = rw (one_left i 257 h, ne_eqb n none d, add-one)

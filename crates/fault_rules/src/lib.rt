@@ -18,6 +18,7 @@ use rules::fault::Rule;
 use slot::Node;
 use table::Table;
 
+// Kept: the rules are an enum, and a match that names each one's function says no more than a table of functions would.
 pub fn rule_holds(t: &Table, rule: Rule, n: Node) -> bool
     ensures { result ≡ holds rule (table_of t.now) n.0 }
 {

@@ -3,15 +3,13 @@ ghost use Rattle.std.specs.Prelude.{◌≡◌};
 ghost use Rattle.table.specs.Words.{table_of};
 ghost use Rattle.rules.specs.Sound.{names_present, s2};
 
-use slot::{Node, number};
-use sound_slots::truth::{both, implies};
+use slot::Node;
 use table::Table;
 
 pub fn names_present(t: &Table, n: Node) -> bool
     ensures { result ≡ names_present (table_of t.now) n.0 }
 {
-    let present = table::field::has_node(t, n);
-    implies(n.0 != number::NO_NODE, present)
+    n.is_none() || table::field::has_node(t, n)
 }
 
 #[tactic(auto, unfolding(rules::specs::Sound::s2))]
@@ -19,11 +17,8 @@ pub fn holds(t: &Table, n: Node) -> bool
     ensures { result ≡ s2 (table_of t.now) n.0 }
 {
     let s = table::get(t, n);
-    let parent = names_present(t, s.parent);
-    let child = names_present(t, s.first_child);
-    let sibling = names_present(t, s.sibling);
-    let ring = names_present(t, s.ring);
-    let tree = both(parent, child);
-    let beside = both(tree, sibling);
-    both(beside, ring)
+    names_present(t, s.parent)
+        && names_present(t, s.first_child)
+        && names_present(t, s.sibling)
+        && names_present(t, s.ring)
 }

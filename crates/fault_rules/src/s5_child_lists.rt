@@ -6,29 +6,19 @@ ghost use Rattle.sound_walks.specs.Pass.{all_from};
 ghost use Rattle.fault_rules.specs.Walked.{child_listed};
 
 use slot::Node;
-use sound_slots::truth::implies;
 use sound_walks::children;
-use table::{Table, marks};
+use table::{Marks, Table};
 
-fn is_listed(t: &Table, listed: &[u8], n: Node, child: Node) -> bool
+fn is_listed(t: &Table, listed: &Marks, n: Node, child: Node) -> bool
     ensures { result ≡ child_listed (table_of t.now) listed.now n.0 child.0 }
 {
-    let own = children::is_child(t, n, child);
-    let marked = marks::is_marked(listed, child);
-    implies(own, marked)
+    !children::is_child(t, n, child) || listed.is_marked(child)
 }
 
-fn all_listed(t: &Table, listed: &[u8], n: Node) -> bool
+fn all_listed(t: &Table, listed: &Marks, n: Node) -> bool
     ensures { result ≡ all_from (child_listed (table_of t.now) listed.now n.0) 256 0 }
 {
-    let mut i: u16 = 0;
-    while i < 256 {
-        if !is_listed(t, listed, n, Node(i)) {
-            return false;
-        }
-        i += 1;
-    }
-    true
+    (0..256).all(|i| is_listed(t, listed, n, Node(i)))
 }
 
 pub fn holds(t: &Table, n: Node) -> bool
@@ -37,7 +27,7 @@ pub fn holds(t: &Table, n: Node) -> bool
     if !table::field::is_outer(t, n) {
         return true;
     }
-    let mut listed: [u8; 256] = [0; 256];
+    let mut listed = Marks::none();
     if !children::list_step(t, &mut listed, n) {
         return false;
     }

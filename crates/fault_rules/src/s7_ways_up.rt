@@ -5,40 +5,32 @@ ghost use Rattle.rules.specs.Slots.{up};
 ghost use Rattle.rules.specs.Walk.{ends};
 ghost use Rattle.rules.specs.Sound.{s7};
 
-use slot::{Node, number};
-use sound_slots::truth::{both, implies};
-use table::Table;
+use slot::Node;
+use table::{Table, field};
 
+// 01: "Parents of tree nodes reach a root within 256 steps"; one step more leaves the root.
+const WAY: usize = 257;
+
+#[tactic(auto, using(crate::proofs::WaySteps::ends_here, crate::proofs::WaySteps::ends_spent, crate::proofs::WaySteps::ends_more))]
 fn way_ends(t: &Table, n: Node) -> bool
     ensures { result ≡ ends 257 (up (table_of t.now)) n.0 }
 {
     let mut here = n;
-    let mut left: u16 = 257;
-    loop {
-        if here.0 == number::NO_NODE {
+    for _ in 0..WAY {
+        if here.is_none() {
             return true;
         }
-        if left == 0 {
-            return false;
-        }
-        here = table::field::parent(t, here);
-        left -= 1;
+        here = field::parent(t, here);
     }
+    here.is_none()
 }
 
 #[tactic(auto, unfolding(rules::specs::Sound::s7))]
 pub fn holds(t: &Table, n: Node) -> bool
     ensures { result ≡ s7 (table_of t.now) n.0 }
 {
-    let above = table::field::parent(t, n);
-    let outer = table::field::is_outer(t, n);
-    let inner = table::field::is_inner(t, n);
-    let blossom = table::field::is_blossom(t, above);
-    let present = table::field::has_node(t, above);
-    let ended = way_ends(t, n);
-    let held = both(blossom, present);
-    let below = both(held, n.0 < above.0);
-    let rooted = implies(outer, ended);
-    let nested = implies(inner, below);
-    both(rooted, nested)
+    let above = field::parent(t, n);
+    (!field::is_outer(t, n) || way_ends(t, n))
+        && (!field::is_inner(t, n)
+            || (field::is_blossom(t, above) && field::has_node(t, above) && n.0 < above.0))
 }

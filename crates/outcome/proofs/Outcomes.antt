@@ -3,16 +3,13 @@ use mathlib.Core.Path.{◌≡◌, refl, sym}
 use mathlib.Core.List.{List}
 use Prim.Native.Nat.{ℕ, ◌≤◌, ◌<◌}
 use borrow.Author.Tests.{lt-ltb, le-ltb}
+use Rattle.std.specs.Prelude.{Ok, Err}
 use Rattle.lists.specs.Choice.{pick}
 use Rattle.table.specs.Table.{Table}
-use Rattle.refusal.specs.declared.Answer.{Answer}
-use Rattle.refusal.specs.declared.Answer.TheVariants as A
-use Rattle.refusal.specs.declared.Verdict.{Verdict}
-use Rattle.refusal.specs.declared.Verdict.TheVariants as W
-use Rattle.refusal.specs.declared.Side.{Side}
+use Rattle.refusal.specs.declared.Refused.{Refused}
 use Rattle.refusal.specs.declared.Side.TheVariants.{Neither}
-use Rattle.refusal.specs.declared.Refusal.{Refusal}
 use Rattle.refusal.specs.declared.Refusal.TheVariants.{NoCommandRoom}
+use Rattle.refusal.specs.Refusal.{Answer, Verdict, at_side}
 use Rattle.record.specs.declared.request.Request.TheVariants as Q
 use Rattle.record.specs.declared.request.Conflict.{Conflict}
 use Rattle.record.specs.declared.request.VirtualConflict.{VirtualConflict}
@@ -24,14 +21,14 @@ use Rattle.outcome.specs.Handled.{Outcome, later_verdict}
 -- ---- the outcome by the verdict
 
 module _ (act : Act) (pos : ℕ) (words bytes : List ℕ) where
-  pub refused_by : (v : Verdict) (n : Refusal) (s : Side) → v ≡ W.Refused n s → Outcome v act pos words bytes (A.Refused n s) words bytes
-  refused_by v n s e = rw e (refl, refl, refl, refl, refl)
+  pub refused_by : (v : Verdict) (x : Refused) → v ≡ Err x → Outcome v act pos words bytes (Err x) words bytes
+  refused_by v x e = rw e (refl, refl, refl, refl, refl)
 
   pub accepted-by :
       (v : Verdict) (p : ℕ) (words' bytes' : List ℕ)
-      → v ≡ W.Accepted
+      → v ≡ Ok tt
       → world_of words' bytes' p ≡ run (world_of words bytes pos) act
-      → Outcome v act pos words bytes (A.Done p) words' bytes'
+      → Outcome v act pos words bytes (Ok p) words' bytes'
   accepted-by v p words' bytes' e q = rw e (refl, q)
 
   -- .. and what one verdict has for outcome, an equal one has
@@ -42,7 +39,7 @@ module _ (act : Act) (pos : ℕ) (words bytes : List ℕ) where
 
 -- 9, then the checks of the nodes
 unfoldable pub judged : ℕ → Verdict → Verdict
-judged room v = pick (lacks_command_room room) (W.Refused NoCommandRoom Neither) v
+judged room v = pick (lacks_command_room room) (Err (at_side NoCommandRoom Neither)) v
 
 module _ (t : Table) (room : ℕ) where
   pub conflict_judged : (c : Conflict) → later_verdict (Q.Conflict c) t room ≡ judged room (first_of (conflict_node_checks t c))
@@ -57,7 +54,7 @@ module _ (t : Table) (room : ℕ) where
   unfolding later_verdict judged
   expansion_judged e = refl
 
-pub judged_no_room : (room m : ℕ) (v : Verdict) → m ≡ room → m < 4096 → judged room v ≡ W.Refused NoCommandRoom Neither
+pub judged_no_room : (room m : ℕ) (v : Verdict) → m ≡ room → m < 4096 → judged room v ≡ Err (at_side NoCommandRoom Neither)
 unfolding judged
 judged_no_room room m v f h = let h' : room < 4096 = rw f at h in rw (lt-ltb room 4096 h')
 

@@ -1,7 +1,7 @@
 -- The promise of a public call: a request on the whole of the lent bytes.
+use Rattle.refusal.specs.Refusal.{Answer}
 use Rattle.std.specs.Prelude.{List, [], ℕ, length}
 use Rattle.table.specs.Words.{table_of}
-use Rattle.refusal.specs.declared.Answer.{Answer}
 use Rattle.record.specs.declared.request.Request.{Request}
 use Rattle.record.specs.declared.request.Request.TheVariants as Q
 use Rattle.rules.specs.Calls.{act_of, verdict}

@@ -1,12 +1,10 @@
 -- The promises of the calls for C: each answer told in numbers, "0 or the refusal".
-use Rattle.std.specs.Prelude.{◌≡◌, List, [], Bool, ℕ, length}
+use Rattle.std.specs.Prelude.{◌≡◌, List, [], Bool, ℕ, length, Ok, Err}
 use Rattle.lists.specs.Choice.{pick}
 use Rattle.table.specs.Words.{table_of}
 use Rattle.table.specs.Making.{begin_fits, fresh}
-use Rattle.refusal.specs.declared.Verdict.{Verdict}
-use Rattle.refusal.specs.declared.Verdict.TheVariants as W
 use Rattle.refusal.specs.declared.Refusal.TheVariants.{NotSound, BadBegin}
-use Rattle.refusal.specs.Refusal.{number_of}
+use Rattle.refusal.specs.Refusal.{Verdict, number_of}
 use Rattle.record.specs.declared.request.Request.{Request}
 use Rattle.record.specs.declared.request.Request.TheVariants as Q
 use Rattle.rules.specs.Act.{Act, world_of, run}
@@ -15,9 +13,9 @@ use Rattle.rules.specs.Run.{Ran, unsound, ran, stop_number, run_tape}
 
 -- refused: the number, nothing written, words and bytes as they were; accepted: 0, the bytes written, and the request's rule done
 abbrev pub Numbered : Verdict → Act → List ℕ → List ℕ → ℕ → ℕ → List ℕ → List ℕ → Type 0
-Numbered (W.Refused n s) act words bytes number written words' bytes' =
-    (number ≡ number_of n) × (written ≡ 0) × (words' ≡ words) × (bytes' ≡ bytes)
-Numbered W.Accepted act words bytes number written words' bytes' =
+Numbered (Err e) act words bytes number written words' bytes' =
+    (number ≡ number_of e.refusal) × (written ≡ 0) × (words' ≡ words) × (bytes' ≡ bytes)
+Numbered (Ok u) act words bytes number written words' bytes' =
     (number ≡ 0) × (world_of words' bytes' written ≡ run (world_of words bytes 0) act)
 
 -- a request on the whole of the lent bytes: words and bytes before, the number, the bytes written, words and bytes after

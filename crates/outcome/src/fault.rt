@@ -4,17 +4,18 @@ ghost use Rattle.outcome.specs.FaultInNumbers.{ToldFault};
 use rules::fault::Fault;
 
 // Gives 0 and slot 0 for a sound table, or the number of the broken rule and the slot.
-pub fn tell(fault: Fault, slot: &mut u16) -> u16
+// Kept: the call for C lends a place for the slot (primal_c).
+pub fn tell(fault: Option<Fault>, slot: &mut u16) -> u16
     ensures { ToldFault fault result slot.new }
 {
     match fault {
-        Fault::Nowhere => {
+        None => {
             *slot = 0;
             0
         }
-        Fault::At(rule, n) => {
-            *slot = n.0;
-            rules::fault::number(rule)
+        Some(fault) => {
+            *slot = fault.slot.0;
+            u16::from(fault.rule)
         }
     }
 }

@@ -5,10 +5,12 @@
 pub mod fault;
 pub mod numbered;
 pub mod partner;
+pub mod run;
 
 ghost use Rattle.std.specs.Prelude.{◌≡◌, ◌-◌, length};
 
 pub use partner::Partner;
+pub use run::Run;
 
 // What a call asks of the lent bytes: for commands (9), for each present defect of a listing (10), and, in a run, for commands and an end
 // record.
@@ -22,8 +24,5 @@ pub const RUN_ROOM: usize = COMMAND_ROOM + 8;
 pub fn room(out: &[u8], pos: usize) -> usize
     ensures { result ≡ length out.now - pos }
 {
-    if pos < out.len() {
-        return out.len() - pos;
-    }
-    0
+    out.len().saturating_sub(pos)
 }

@@ -46,31 +46,18 @@ pub fn expansion(node: u16) -> Expansion
 }
 
 // An answer in numbers: 0 and the bytes written, or the refusal's number and no bytes.
+// Kept: the calls for C lend places for the numbers (primal_c).
 pub fn tell(answer: Answer, written: &mut usize) -> u16
     ensures { Told answer result written.new }
 {
-    match answer {
-        Answer::Done(bytes) => {
-            *written = bytes;
-            0
-        }
-        Answer::Refused(refusal, _) => {
-            *written = 0;
-            refusal::number(refusal)
-        }
-    }
+    *written = refusal::answer_written(answer);
+    refusal::answer_number(answer)
 }
 
 // Its side: 0 where it was done or the refusal names none.
+// Kept: as tell.
 pub fn tell_side(answer: Answer, side: &mut u16)
     ensures { side.new ≡ answer_side answer }
 {
-    match answer {
-        Answer::Done(_) => {
-            *side = 0;
-        }
-        Answer::Refused(_, named) => {
-            *side = refusal::side_number(named);
-        }
-    }
+    *side = refusal::answer_side(answer);
 }

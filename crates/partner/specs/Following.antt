@@ -1,8 +1,8 @@
--- What the code follows from the link of an outer node inward to a defect d. On a sound table it comes to `entry`.
-use Rattle.std.specs.Prelude.{ℕ, zero, suc, List, eqb, get_or, replicate}
+-- What the code follows from the link of an outer node inward to a defect d. On a sound table it comes to `entry` (FollowedEntry).
+use Rattle.std.specs.Prelude.{ℕ, zero, suc, List, Option, Some, None, eqb, get_or, replicate}
 use Rattle.lists.specs.Choice.{pick}
 use Rattle.slot.specs.Number.{none}
-use Rattle.slot.specs.Slot.{Link, no_link}
+use Rattle.slot.specs.Slot.{Link}
 use Rattle.table.specs.Table.{Table, at}
 use Rattle.table.specs.Climb.{outer_blossom}
 use Rattle.rules.specs.Slots.{is_stay, up, next}
@@ -26,6 +26,7 @@ followed (suc k) t w d l = let inward = followed k t w d (turned_off t w l.touch
 abbrev pub way_of : Table → ℕ → List ℕ
 way_of t d = noted 256 t d (replicate 256 none)
 
-abbrev pub followed_entry : Table → ℕ → Link
+-- with nobody, if the outer node around d is not matched
+abbrev pub followed_entry : Table → ℕ → Option Link
 followed_entry t d =
-    pick (is_stay (at t (outer_blossom t d)).state) (followed 256 t (way_of t d) d (at t (outer_blossom t d)).link) no_link
+    pick (is_stay (at t (outer_blossom t d)).state) (Some (followed 256 t (way_of t d) d (at t (outer_blossom t d)).link)) None

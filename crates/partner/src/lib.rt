@@ -5,54 +5,48 @@
 pub mod following;
 pub mod way;
 
-ghost use Rattle.std.specs.Prelude.{◌≡◌, true};
+ghost use Rattle.std.specs.Prelude.{◌≡◌, option_map};
 ghost use Rattle.slot.specs.Slot.{link_of};
 ghost use Rattle.table.specs.Words.{table_of};
-ghost use Rattle.rules.specs.Sound.{sound};
-ghost use Rattle.outcome.specs.Partner.{partner_by, later_partner};
+ghost use Rattle.outcome.specs.Partner.{partner_at, later_partner};
 ghost use Rattle.partner.specs.Following.{followed_entry};
 
 use outcome::Partner;
+use record::{Pair, VirtualPair};
 use refusal::Refusal;
-use slot::{Link, Node, link, number};
+use slot::{Link, Node, State};
+use sound_table::SoundView;
+use table::numbers::SlotNumbers;
 use table::{Table, field};
 
-// The link by which d is paired, or a link of none.
-fn entry_of(t: &Table, d: Node) -> Link
-    ensures { link_of result ≡ followed_entry (table_of t.now) d.0 }
+// The link by which d is paired.
+fn entry_of(t: &Table, d: Node) -> Option<Link>
+    ensures { option_map link_of result ≡ followed_entry (table_of t.now) d.0 }
 {
-    let mut below: [u16; 256] = [number::NO_NODE; 256];
+    let mut below = SlotNumbers::filled(Node::NONE.0);
     let home = way::note_way(t, &mut below, d);
-    let state = field::state(t, home);
-    let is_matched = sound_slots::value::is_stay(state);
-    if !is_matched {
-        return link::no_link();
+    if field::state(t, home) != State::Stay {
+        return None;
     }
-    let first = field::link(t, home);
-    following::follow(t, &below, d, first)
+    Some(following::follow(t, &below, d, field::link(t, home)))
 }
 
 // What a link says of its touch.
-fn partner_by(link: Link) -> Partner
-    ensures { result ≡ partner_by (link_of link) }
+fn partner_at(link: Link) -> Partner
+    ensures { result ≡ partner_at (link_of link) }
 {
-    let touch = link.touch;
-    let peer_touch = link.peer_touch;
-    if touch.0 == number::NO_NODE {
-        return Partner::Nobody;
+    if link.peer_touch.is_none() {
+        return Partner::Virtual(VirtualPair::from(link));
     }
-    if peer_touch.0 == number::NO_NODE {
-        return Partner::Virtual(request_listing::slots::virtual_entry(link));
-    }
-    Partner::Defect(request_listing::pairs::pair_entry(link))
+    Partner::Defect(Pair::from(link))
 }
 
 // Refused where d is no present defect.
-pub fn partner(t: &Table, d: Node) -> Partner
-    ensures { sound (table_of t.now) ≡ true → result ≡ later_partner (table_of t.now) d.0 }
+pub fn partner(t: SoundView, d: Node) -> Result<Option<Partner>, Refusal>
+    ensures { result ≡ later_partner (table_of t.entry.words.now) d.0 }
 {
-    if !field::is_present_defect(t, d) {
-        return Partner::Refused(Refusal::NoSuchNode);
+    if !field::is_present_defect(t.words, d) {
+        return Err(Refusal::NoSuchNode);
     }
-    partner_by(entry_of(t, d))
+    Ok(entry_of(t.words, d).map(partner_at))
 }

@@ -2,17 +2,17 @@
 use mathlib.Core.Path.{◌≡◌, refl}
 use mathlib.Core.List.{List}
 use Prim.Native.Nat.{ℕ}
+use Rattle.std.specs.Prelude.{Ok}
 use Rattle.table.specs.Table.{Table}
 use Rattle.table.specs.Words.{table_of}
 use Rattle.table.specs.Making.{emptied}
-use Rattle.refusal.specs.declared.Verdict.TheVariants as W
 use Rattle.record.specs.declared.request.Request.TheVariants as Q
 use Rattle.record.specs.Writing.{out_of}
 use Rattle.rules.specs.Act.{world_of, run, change}
 use Rattle.rules.proofs.Runs.{run-change}
 use Rattle.outcome.specs.Handled.{later_verdict}
 
-pub reset_accepted : (t : Table) (room : ℕ) → later_verdict Q.Reset t room ≡ W.Accepted
+pub reset_accepted : (t : Table) (room : ℕ) → later_verdict Q.Reset t room ≡ Ok tt
 unfolding later_verdict
 reset_accepted t room = refl
 

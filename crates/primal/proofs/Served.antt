@@ -4,13 +4,9 @@ use mathlib.Core.Bool.{true}
 use mathlib.Core.List.{List, [], ◌∷◌, ◌++◌}
 use Prim.Native.Nat.{ℕ, ◌-◌}
 use lib.ListN.{length}
+use Rattle.std.specs.Prelude.{Ok, Err}
 use Rattle.table.specs.Words.{table_of}
-use Rattle.table.specs.Table.{Full}
-use Rattle.refusal.specs.declared.Answer.{Answer}
-use Rattle.refusal.specs.declared.Answer.TheVariants as A
-use Rattle.refusal.specs.declared.Verdict.{Verdict}
-use Rattle.refusal.specs.declared.Verdict.TheVariants as W
-use Rattle.refusal.specs.Refusal.{answer_written}
+use Rattle.refusal.specs.Refusal.{Answer, Verdict, answer_written}
 use Rattle.refusal.proofs.Numbers.{is_done, is_refused}
 use Rattle.record.specs.declared.request.Request.{Request}
 use Rattle.record.specs.declared.answer.Record.{Record}
@@ -20,14 +16,14 @@ use Rattle.rules.specs.Act.{Act, World, world_of, run, skip}
 use Rattle.rules.specs.Calls.{act_of, act_by, verdict, end_record, answered}
 use Rattle.rules.specs.Run.{served}
 use Rattle.table.proofs.WordsOfSlots.{slots_length}
-use Rattle.theorems_soundness.proofs.Reflect.{test_true}
-use Rattle.theorems_soundness.proofs.Kept.{served_keeps_sound}
+use Rattle.theorems_soundness.proofs.Reflect.{true_test, test_true}
+use Rattle.theorems_soundness.proofs.Kept.{answered_keeps_sound}
 use Rattle.record.proofs.Written.{write_all_append}
 use Rattle.rules.proofs.Runs.{world, run-skip}
 use Rattle.rules.specs.Sound.{sound}
-use Rattle.outcome.specs.Handled.{Outcome, later_verdict}
+use Rattle.outcome.specs.Handled.{Outcome, Handled, later_verdict}
 use Rattle.outcome.proofs.Verdicts.{sound-verdict}
-use Rattle.primal.specs.Serving.{pos_after, verdict_told, Serves}
+use Rattle.primal.specs.Serving.{pos_after, verdict_told}
 
 -- an act, and one record more
 abbrev pub ended : World → Act → Record → World
@@ -48,49 +44,40 @@ module _ (q : Request) (pos : ℕ) (words bytes words' bytes' : List ℕ) (a : A
       → Outcome v (act_of q) pos words bytes a words' bytes'
       → o ≡ written (out_of bytes' (pos_after pos a)) (answer_bytes (end_record (verdict_told a)))
       → world (table_of words') o ≡ served q (world_of words bytes pos)
-  by_verdict W.Accepted e h p =
+  by_verdict (Ok u) e h p =
       let w : World = world_of words bytes pos in
-      let end : Record = end_record W.Accepted in
-      let d : a ≡ A.Done (answer_written a) = is_done a h.0 in
+      let end : Record = end_record (Ok tt) in
+      let d : a ≡ Ok (answer_written a) = is_done a h.0 in
       let p' : o ≡ written (out_of bytes' (answer_written a)) (answer_bytes end) = p ∙ ap (λ (x : Answer). written (out_of bytes' (pos_after pos x)) (answer_bytes (end_record (verdict_told x)))) d in
       let r : World = world_of words' bytes' (answer_written a) in
       let g : world (table_of words') o ≡ world r.table (written r.out (answer_bytes end)) = ap (λ (x : Out). world (table_of words') x) p' in
       g
       ∙ ap (λ (x : World). world x.table (written x.out (answer_bytes end))) h.1
       ∙ sym (ended-run w (act_of q) end)
-      ∙ sym (served_by q words bytes pos W.Accepted e)
-  by_verdict (W.Refused n s) e h p =
+      ∙ sym (served_by q words bytes pos (Ok tt) e)
+  by_verdict (Err x) e h p =
       let w : World = world_of words bytes pos in
-      let end : Record = end_record (W.Refused n s) in
-      let p' : o ≡ written (out_of bytes pos) (answer_bytes end) = p ∙ rw (is_refused a n s h.0 h.1, h.4) in
+      let end : Record = end_record (Err x) in
+      let p' : o ≡ written (out_of bytes pos) (answer_bytes end) = p ∙ rw (is_refused a x h.0 h.1, h.4) in
       rw (h.3, p')
-      (sym (served_by q words bytes pos (W.Refused n s) e ∙ ended-run w skip end ∙ rw run-skip))
+      (sym (served_by q words bytes pos (Err x) e ∙ ended-run w skip end ∙ rw run-skip))
 
-pub served-step :
-    (q : Request) (pos p : ℕ) (words bytes words' bytes' bytes'' : List ℕ) (a : Answer)
-    → (sound (table_of words) ≡ true → Outcome (later_verdict q (table_of words) (length bytes - pos)) (act_of q) pos words bytes a words' bytes')
-    → out_of bytes'' p ≡ written (out_of bytes' (pos_after pos a)) (answer_bytes (end_record (verdict_told a)))
-    → Serves q pos words bytes p words' bytes''
-unfolding Serves
-served-step q pos p words bytes words' bytes' bytes'' a h e s =
-    by_verdict q pos words bytes words' bytes' a (out_of bytes'' p) (later_verdict q (table_of words) (length bytes - pos)) (sound-verdict q (table_of words) (length bytes - pos) s) (h s) e
+module _ (q : Request) (pos : ℕ) (words bytes : List ℕ) (s : sound (table_of words) ≡ true) where
+  pub served-step :
+      (p : ℕ) (words' bytes' bytes'' : List ℕ) (a : Answer)
+      → Handled q pos words bytes a words' bytes'
+      → out_of bytes'' p ≡ written (out_of bytes' (pos_after pos a)) (answer_bytes (end_record (verdict_told a)))
+      → world_of words' bytes'' p ≡ served q (world_of words bytes pos)
+  served-step p words' bytes' bytes'' a h e =
+      by_verdict q pos words bytes words' bytes' a (out_of bytes'' p) (later_verdict q (table_of words) (length bytes - pos)) (sound-verdict q (table_of words) (length bytes - pos) s) h e
 
-pub served-world :
-    (q : Request) (pos p : ℕ) (words bytes words' bytes' : List ℕ)
-    → Serves q pos words bytes p words' bytes'
-    → sound (table_of words) ≡ true
-    → world_of words' bytes' p ≡ served q (world_of words bytes pos)
-unfolding Serves
-served-world q pos p words bytes words' bytes' h s = h s
+  kept_by : (v : Verdict) (a : Answer) (words' bytes' : List ℕ) → verdict q (table_of words) (length bytes - pos) ≡ v → Outcome v (act_of q) pos words bytes a words' bytes' → sound (table_of words') ≡ true
+  unfolding run answered
+  kept_by (Ok u) a words' bytes' e h =
+      let k = test_true (sound (answered q (length bytes - pos) (table_of words)).table) (answered_keeps_sound (table_of words) (slots_length words) (true_test (sound (table_of words)) s) q (length bytes - pos)) in
+      ap (λ (w : World). sound w.table) h.1 ∙ (rw e at k)
+  kept_by (Err x) a words' bytes' e h = rw h.3 s
 
-served_keeps : (q : Request) (w : World) → Full w.table → sound w.table ≡ true → sound (served q w).table ≡ true
-served_keeps q w full s = test_true (sound (served q w).table) (served_keeps_sound q w full (rw s tt))
-
--- each request leaves a sound table sound
-pub served-sound :
-    (q : Request) (pos p : ℕ) (words bytes words' bytes' : List ℕ)
-    → Serves q pos words bytes p words' bytes'
-    → sound (table_of words) ≡ true
-    → sound (table_of words') ≡ true
-served-sound q pos p words bytes words' bytes' h s =
-    ap (λ (w : World). sound w.table) (served-world q pos p words bytes words' bytes' h s) ∙ served_keeps q (world_of words bytes pos) (slots_length words) s
+  -- each request leaves a sound table sound
+  pub handled_sound : (a : Answer) (words' bytes' : List ℕ) → Handled q pos words bytes a words' bytes' → sound (table_of words') ≡ true
+  handled_sound a words' bytes' h = kept_by (later_verdict q (table_of words) (length bytes - pos)) a words' bytes' (sound-verdict q (table_of words) (length bytes - pos) s) h

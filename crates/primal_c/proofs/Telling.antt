@@ -4,35 +4,31 @@ use mathlib.Core.List.{List, []}
 use mathlib.Core.Bool.{Bool, true, false}
 use Prim.Native.Nat.{ℕ}
 use lib.ListN.{length}
+use Rattle.std.specs.Prelude.{Ok, Err}
 use Rattle.lists.specs.Choice.{pick}
 use Rattle.table.specs.Words.{table_of}
 use Rattle.table.specs.Making.{begin_fits, fresh, Made}
-use Rattle.refusal.specs.declared.Answer.{Answer}
 use Rattle.refusal.specs.declared.Refusal.TheVariants.{BadBegin}
-use Rattle.refusal.specs.declared.Verdict.{Verdict}
-use Rattle.refusal.specs.declared.Verdict.TheVariants as W
-use Rattle.refusal.specs.Refusal.{number_of, answer_number, answer_side, answer_written}
+use Rattle.refusal.specs.Refusal.{Answer, Verdict, number_of, answer_number, answer_side, answer_written}
 use Rattle.refusal.proofs.Numbers.{is_done}
 use Rattle.record.specs.declared.request.Request.{Request}
 use Rattle.record.specs.declared.request.Request.TheVariants as Q
 use Rattle.record.specs.Writing.{write_all}
 use Rattle.rules.specs.Act.{Act, World, world_of, run, change}
 use Rattle.rules.specs.Calls.{act_of, verdict, verdict_side}
-use Rattle.rules.specs.Run.{Ran, unsound, ran, run_tape}
 use Rattle.outcome.specs.Handled.{Outcome}
-use Rattle.outcome.specs.Tape.{HandsOut, Tape}
 use Rattle.outcome.specs.Call.{Call, Reset}
 use Rattle.outcome.specs.Told.{Told}
-use Rattle.outcome.specs.Numbered.{Numbered, Called, CalledWithSide, WasReset, WasMade, RanTape, Run}
+use Rattle.outcome.specs.Numbered.{Numbered, Called, CalledWithSide, WasReset, WasMade}
 
 told-by :
     (v : Verdict) (act : Act) (words bytes : List ℕ) (a : Answer) (words' bytes' : List ℕ) (number written : ℕ)
     → Outcome v act 0 words bytes a words' bytes'
     → Told a number written
     → Numbered v act words bytes number written words' bytes'
-told-by (W.Refused n s) act words bytes a words' bytes' number written o p =
+told-by (Err e) act words bytes a words' bytes' number written o p =
     (p.0 ∙ o.0, p.1 ∙ o.2, o.3, o.4)
-told-by W.Accepted act words bytes a words' bytes' number written o p = (p.0 ∙ o.0, rw p.1 o.1)
+told-by (Ok u) act words bytes a words' bytes' number written o p = (p.0 ∙ o.0, rw p.1 o.1)
 
 pub told :
     (q : Request) (words bytes : List ℕ) (a : Answer) (words' bytes' : List ℕ) (number written : ℕ)
@@ -56,8 +52,8 @@ side-by :
     (v : Verdict) (act : Act) (words bytes : List ℕ) (a : Answer) (words' bytes' : List ℕ)
     → Outcome v act 0 words bytes a words' bytes'
     → answer_side a ≡ verdict_side v
-side-by (W.Refused n s) act words bytes a words' bytes' o = o.1
-side-by W.Accepted act words bytes a words' bytes' o = ap answer_side (is_done a o.0)
+side-by (Err e) act words bytes a words' bytes' o = o.1
+side-by (Ok u) act words bytes a words' bytes' o = ap answer_side (is_done a o.0)
 
 pub told-with-side :
     {A : Type 0} (f : A → Request) (r r' : A)
@@ -86,8 +82,8 @@ told-reset-by :
     → Outcome v (act_of Q.Reset) 0 words [] a words' []
     → number ≡ answer_number a
     → Numbered v (act_of Q.Reset) words [] number 0 words' []
-told-reset-by (W.Refused n s) words a words' number o p = (p ∙ o.0, refl, o.3, o.4)
-told-reset-by W.Accepted words a words' number o p =
+told-reset-by (Err e) words a words' number o p = (p ∙ o.0, refl, o.3, o.4)
+told-reset-by (Ok u) words a words' number o p =
     (p ∙ o.0, reset_written words words' (answer_written a) o.1)
 
 pub told-reset :
@@ -113,24 +109,3 @@ pub told-made :
     → number ≡ answer_number a
     → WasMade before b number after
 told-made before after b = made_by (begin_fits b) before after b
-
-told-run-by :
-    (r : Ran)
-    (words bytes tape : List ℕ)
-    (stop refusal handled written : ℕ)
-    (rest words' bytes' : List ℕ)
-    → HandsOut r words bytes tape stop refusal handled written rest words' bytes'
-    → RanTape r words bytes tape refusal stop handled written (length rest) words' bytes'
-told-run-by unsound words bytes tape stop refusal handled written rest words' bytes' h =
-    (h.1, h.0, h.2, h.3, ap length h.4, h.5, h.6)
-told-run-by (ran e) words bytes tape stop refusal handled written rest words' bytes' h =
-    (h.1, h.0, h.2, ap length h.3, h.4)
-
-pub told-run :
-    (allowance : ℕ)
-    (words bytes tape : List ℕ)
-    (stop refusal handled written : ℕ)
-    (rest words' bytes' : List ℕ)
-    → Tape allowance words bytes tape stop refusal handled written rest words' bytes'
-    → Run allowance words bytes tape refusal stop handled written (length rest) words' bytes'
-told-run allowance words bytes tape = told-run-by (run_tape allowance (world_of words bytes 0) tape) words bytes tape

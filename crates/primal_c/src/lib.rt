@@ -1,5 +1,6 @@
 // The public calls for C and Rust, as `include/boltclover.h` declares them. Each passes its arguments to the call of the same
 // name in `primal` and tells the answer in numbers. A slice is a pointer and a length.
+// Kept: what a call takes and gives back is as C declares it, the numbers each by its place.
 #![tactic(auto)]
 
 ghost use Rattle.std.specs.Prelude.{◌≡◌, [], ◌∷◌};
@@ -140,17 +141,20 @@ pub extern "C" fn boltclover_run(
 ) -> u16
     ensures { Run allowance table.old out.old tape.now result stop.new handled.new written.new unread.new table.new out.new }
 {
-    let mut number: u16 = 0;
-    let rest = primal::run(
-        table,
-        tape,
-        out,
-        allowance,
-        stop,
-        &mut number,
-        handled,
-        written,
-    );
-    *unread = rest.len();
-    number
+    match primal::run(table, tape, out, allowance) {
+        Ok(run) => {
+            *stop = u16::from(run.stop);
+            *handled = run.handled;
+            *written = run.written;
+            *unread = run.rest.len();
+            0
+        }
+        Err(refusal) => {
+            *stop = 0;
+            *handled = 0;
+            *written = 0;
+            *unread = tape.len();
+            u16::from(refusal)
+        }
+    }
 }

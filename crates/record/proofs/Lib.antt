@@ -1,4 +1,4 @@
-pub mod Layouts
+pub mod KindLaws
 pub mod Written
 pub mod Codec
 pub mod Padding

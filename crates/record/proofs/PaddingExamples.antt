@@ -3,12 +3,12 @@ use mathlib.Core.Path.{◌≡◌, refl}
 use mathlib.Core.Bool.{true, false}
 use mathlib.Core.List.{List, [], ◌∷◌, ◌++◌}
 use Prim.Native.Nat.{ℕ}
+use Rattle.std.specs.Prelude.{Ok}
 use lib.ListN.{drop}
 use Rattle.record.specs.declared.kind.Kind.TheVariants as K
 use Rattle.record.specs.declared.request.Request.{Request}
 use Rattle.record.specs.declared.request.Request.TheVariants as Q
-use Rattle.record.specs.declared.request.Reading.TheVariants as R
-use Rattle.record.specs.Kinds.{length_of, layout_of}
+use Rattle.record.specs.Kinds.{length_of, kind_of}
 use Rattle.record.specs.Records.{expansion_from, request_bytes}
 use Rattle.record.specs.Padding.{rounded_up, padded_length, are_zero, padded_request, unpadded}
 use Rattle.record.specs.Reading.{bad, read, reading_number, reading_values, reading_size}
@@ -44,22 +44,22 @@ forms : (request_bytes expand_128 ≡ exact_bytes) × (padded_request expand_128
 unfolding request_bytes padded_request
 forms = (refl, refl, refl)
 
-padded_read : (read padded_bytes ≡ R.Request expand_128 8) × (read exact_bytes ≡ R.Request expand_128 6)
-unfolding read layout_of
+padded_read : (read padded_bytes ≡ Ok (expand_128, 8)) × (read exact_bytes ≡ Ok (expand_128, 6))
+unfolding read kind_of
 padded_read = (refl, refl)
 
 -- in numbers; what stands behind the padding is left on the tape
 padded-told :
     let r = read (padded_bytes ++ 7 ∷ []) in
     (reading_number r ≡ 0) × (reading_values r ≡ 3 ∷ 128 ∷ []) × (reading_size r ≡ 8)
-unfolding read layout_of
+unfolding read kind_of
 padded-told = (refl, refl, refl)
 
 -- the length field decides: an expansion of length 4, and then a record that is cut short
 exact-then-cut :
     let tape : List ℕ = 0x04 ∷ 0x00 ∷ 0x03 ∷ 0x00 ∷ 0x80 ∷ 0x00 ∷ 0x00 ∷ 0x00 ∷ [] in
-    (read tape ≡ R.Request expand_128 6) × (read (drop 6 tape) ≡ bad)
-unfolding read layout_of
+    (read tape ≡ Ok (expand_128, 6)) × (read (drop 6 tape) ≡ bad)
+unfolding read kind_of
 exact-then-cut = (refl, refl)
 
 -- ---- bad ones
@@ -68,7 +68,7 @@ exact-then-cut = (refl, refl)
 nonzero-read :
     (read (0x06 ∷ 0x00 ∷ 0x03 ∷ 0x00 ∷ 0x80 ∷ 0x00 ∷ 0x01 ∷ 0x00 ∷ []) ≡ bad)
     × (read (0x06 ∷ 0x00 ∷ 0x03 ∷ 0x00 ∷ 0x80 ∷ 0x00 ∷ 0x00 ∷ 0x80 ∷ []) ≡ bad)
-unfolding read layout_of
+unfolding read kind_of
 nonzero-read = (refl, refl)
 
 -- lengths 2, 3, 5, 7, 8 and 10 are other ones, with zeros too
@@ -82,14 +82,14 @@ other_length-read :
     × (read (of_length 7) ≡ bad)
     × (read (of_length 8) ≡ bad)
     × (read (of_length 10) ≡ bad)
-unfolding read layout_of
+unfolding read kind_of
 other_length-read = (refl, refl, refl, refl, refl, refl)
 
 -- cut at 6 and at 7 bytes
 cut-read :
     (read (0x06 ∷ 0x00 ∷ 0x03 ∷ 0x00 ∷ 0x80 ∷ 0x00 ∷ []) ≡ bad)
     × (read (0x06 ∷ 0x00 ∷ 0x03 ∷ 0x00 ∷ 0x80 ∷ 0x00 ∷ 0x00 ∷ []) ≡ bad)
-unfolding read layout_of
+unfolding read kind_of
 cut-read = (refl, refl)
 
 -- other requests have one length: a conflict with two zeros more, a reset with two and with four
@@ -97,5 +97,5 @@ no-other-padding :
     (read (20 ∷ 0 ∷ 1 ∷ 0 ∷ 0 ∷ 0 ∷ 1 ∷ 0 ∷ 0 ∷ 0 ∷ 1 ∷ 0 ∷ 10 ∷ 0 ∷ 0 ∷ 0 ∷ 11 ∷ 0 ∷ 0 ∷ 0 ∷ 0 ∷ 0 ∷ []) ≡ bad)
     × (read (4 ∷ 0 ∷ 4 ∷ 0 ∷ 0 ∷ 0 ∷ []) ≡ bad)
     × (read (6 ∷ 0 ∷ 4 ∷ 0 ∷ 0 ∷ 0 ∷ 0 ∷ 0 ∷ []) ≡ bad)
-unfolding read layout_of
+unfolding read kind_of
 no-other-padding = (refl, refl, refl)

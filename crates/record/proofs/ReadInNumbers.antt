@@ -6,21 +6,19 @@ use Prim.Native.Nat.{ℕ, ◌+◌}
 use native.Mathlib.Omega.{arith}
 use lib.Dec.{eqb, ltb}
 use lib.ListN.{length, drop}
+use Rattle.std.specs.Prelude.{Result, Ok, Err}
 use Rattle.lists.specs.Choice.{pick}
-use Rattle.refusal.specs.declared.Refusal.TheVariants.{BadRecord}
-use Rattle.refusal.specs.Refusal.{number_of}
 use Rattle.refusal.proofs.Numbers.{same_refusal, number_some}
 use Rattle.record.specs.declared.kind.Kind.{Kind}
 use Rattle.record.specs.declared.kind.Kind.TheVariants as K
+use Rattle.record.specs.declared.kind.UnknownKind.{UnknownKind}
 use Rattle.record.specs.declared.request.Request.{Request}
 use Rattle.record.specs.declared.request.Request.TheVariants as Q
-use Rattle.record.specs.declared.request.Reading.{Reading}
-use Rattle.record.specs.declared.request.Reading.TheVariants as R
-use Rattle.record.specs.Kinds.{number_of_kind, widths, is_request}
+use Rattle.record.specs.Kinds.{number_of_kind, widths, length_of, is_request}
 use Rattle.record.specs.Fields.{decode}
 use Rattle.record.specs.Records.{request_kind, request_fields, conflict_from, virtual_from, expansion_from}
 use Rattle.record.specs.Padding.{has_its_length}
-use Rattle.record.specs.Reading.{length_at, layout_at, bad, asked, read, reading_number, reading_values, reading_size, is_bad, Read}
+use Rattle.record.specs.Reading.{Reading, length_at, kind_at, bad, asked, read_as, read, reading_number, reading_values, reading_size, is_bad, IsRefused, ReadAs, Read}
 
 -- ---- the numbers stand for one answer
 
@@ -47,12 +45,12 @@ pub same-reading :
     → reading_values r ≡ reading_values r'
     → reading_size r ≡ reading_size r'
     → r ≡ r'
-same-reading (R.Request q m) (R.Request p n) e v s =
+same-reading (Ok (q, m)) (Ok (p, n)) e v s =
     let d : q ≡ p = sym (values_back q) ∙ ap request_with v ∙ values_back p in
-    λ i. R.Request (d i) (s i)
-same-reading (R.Request q m) (R.Refused n) e v s = absurd (omega (arith, number_some n))
-same-reading (R.Refused m) (R.Request q n) e v s = absurd (omega (arith, number_some m))
-same-reading (R.Refused m) (R.Refused n) e v s = ap R.Refused (same_refusal m n e)
+    λ i. Ok (d i, s i)
+same-reading (Ok (q, m)) (Err n) e v s = absurd (omega (arith, number_some n))
+same-reading (Err m) (Ok (q, n)) e v s = absurd (omega (arith, number_some m))
+same-reading (Err m) (Err n) e v s = ap Err (same_refusal m n e)
 
 -- ---- what `read` says, in numbers
 
@@ -60,7 +58,7 @@ same-reading (R.Refused m) (R.Refused n) e v s = ap R.Refused (same_refusal m n 
 abbrev Told : Bool → Kind → List ℕ → ℕ → Reading → Type 0
 Told is_bad k vs size r =
     pick is_bad
-    ((reading_number r ≡ number_of BadRecord) × (reading_values r ≡ []) × (reading_size r ≡ 0))
+    (IsRefused r)
     ((reading_number r ≡ 0) × (reading_values r ≡ number_of_kind k ∷ vs) × (reading_size r ≡ size))
 
 told :
@@ -80,16 +78,31 @@ told false false true K.Expand bs size = (refl, refl, refl)
 told false false true K.End bs size = (refl, refl, refl)
 told false false true K.Pair bs size = (refl, refl, refl)
 told false false true K.VirtualPair bs size = (refl, refl, refl)
-told false false true K.Other bs size = (refl, refl, refl)
+
+unknown_told : (a b : Bool) → IsRefused (pick a bad (pick b bad bad))
+unknown_told true b = (refl, refl, refl)
+unknown_told false true = (refl, refl, refl)
+unknown_told false false = (refl, refl, refl)
+
+read_as_told : (k : Result Kind UnknownKind) (bs : List ℕ) → ReadAs k bs (pick (ltb (length bs) 4) bad (pick (ltb (length bs) (2 + length_at bs)) bad (read_as k bs)))
+read_as_told (Err e) bs = unknown_told (ltb (length bs) 4) (ltb (length bs) (2 + length_at bs))
+read_as_told (Ok k) bs =
+    told (ltb (length bs) 4) (ltb (length bs) (2 + length_at bs)) (has_its_length (length_of k) (length_at bs) bs) k (drop 4 bs) (2 + length_at bs)
 
 read_told : (bs : List ℕ) → Read bs (read bs)
 unfolding read
-read_told bs =
-    told (ltb (length bs) 4) (ltb (length bs) (2 + length_at bs)) (has_its_length (layout_at bs).length (length_at bs) bs) (layout_at bs).kind (drop 4 bs) (2 + length_at bs)
+read_told bs = read_as_told (kind_at bs) bs
+
+refused_once : (r r' : Reading) → IsRefused r → IsRefused r' → r ≡ r'
+refused_once r r' h h' = same-reading r r' (h.0 ∙ sym h'.0) (h.1 ∙ sym h'.1) (h.2 ∙ sym h'.2)
 
 once : (is_bad : Bool) (k : Kind) (vs : List ℕ) (size : ℕ) (r r' : Reading) → Told is_bad k vs size r → Told is_bad k vs size r' → r ≡ r'
-once true k vs size r r' h h' = same-reading r r' (h.0 ∙ sym h'.0) (h.1 ∙ sym h'.1) (h.2 ∙ sym h'.2)
+once true k vs size r r' h h' = refused_once r r' h h'
 once false k vs size r r' h h' = same-reading r r' (h.0 ∙ sym h'.0) (h.1 ∙ sym h'.1) (h.2 ∙ sym h'.2)
+
+once_as : (k : Result Kind UnknownKind) (bs : List ℕ) (r r' : Reading) → ReadAs k bs r → ReadAs k bs r' → r ≡ r'
+once_as (Err e) bs = refused_once
+once_as (Ok k) bs = once (is_bad k bs) k (decode (widths k) (drop 4 bs)) (2 + length_at bs)
 
 -- ---- the promise in numbers, and the equation
 
@@ -97,5 +110,4 @@ pub read_in_numbers : (bs : List ℕ) (r : Reading) → r ≡ read bs → Read b
 read_in_numbers bs r e = rw e (read_told bs)
 
 pub read_of_numbers : (bs : List ℕ) (r : Reading) → Read bs r → r ≡ read bs
-read_of_numbers bs r h =
-    once (is_bad bs) (layout_at bs).kind (decode (widths (layout_at bs).kind) (drop 4 bs)) (2 + length_at bs) r (read bs) h (read_told bs)
+read_of_numbers bs r h = once_as (kind_at bs) bs r (read bs) h (read_told bs)

@@ -2,14 +2,14 @@
 use mathlib.Core.Path.{◌≡◌, refl}
 use mathlib.Core.List.{List, [], ◌∷◌, ◌++◌}
 use Prim.Native.Nat.{ℕ}
+use Rattle.std.specs.Prelude.{Ok}
 use Rattle.refusal.specs.declared.Side.TheVariants.{Neither, First, Second}
 use Rattle.record.specs.declared.request.Request.{Request}
 use Rattle.record.specs.declared.request.Request.TheVariants as Q
-use Rattle.record.specs.declared.request.Reading.TheVariants as R
 use Rattle.record.specs.declared.answer.Speed.TheVariants as S
 use Rattle.record.specs.declared.answer.Record.{Record}
 use Rattle.record.specs.declared.answer.Record.TheVariants as A
-use Rattle.record.specs.Kinds.{layout_of}
+use Rattle.record.specs.Kinds.{kind_of}
 use Rattle.record.specs.Records.{conflict_from, virtual_from, expansion_from, node_of, vertex_of, request_bytes, answer_bytes}
 use Rattle.record.specs.Reading.{bad, read, reading_number, reading_values, reading_size}
 use Rattle.record.specs.Writing.{bytes_of}
@@ -27,15 +27,15 @@ unfolding request_bytes
 conflict-written = refl
 
 -- one byte more is left on the tape
-conflict-read : read (conflict_bytes ++ 7 ∷ []) ≡ R.Request conflict 20
-unfolding read layout_of
+conflict-read : read (conflict_bytes ++ 7 ∷ []) ≡ Ok (conflict, 20)
+unfolding read kind_of
 conflict-read = refl
 
 -- in numbers: kind 1, nodes 0 and 1, touches 2 and 3, vertices 10 and 11
 conflict-told :
     let r = read (conflict_bytes ++ 7 ∷ []) in
     (reading_number r ≡ 0) × (reading_values r ≡ 1 ∷ 0 ∷ 1 ∷ 2 ∷ 3 ∷ 10 ∷ 11 ∷ []) × (reading_size r ≡ 20)
-unfolding read layout_of
+unfolding read kind_of
 conflict-told = (refl, refl, refl)
 
 abbrev virtual : Request
@@ -48,38 +48,38 @@ virtual_written : request_bytes virtual ≡ virtual_bytes
 unfolding request_bytes
 virtual_written = refl
 
-virtual_read : read virtual_bytes ≡ R.Request virtual 16
-unfolding read layout_of
+virtual_read : read virtual_bytes ≡ Ok (virtual, 16)
+unfolding read kind_of
 virtual_read = refl
 
 expansion-written : request_bytes (Q.Expansion (expansion_from (128 ∷ []))) ≡ 4 ∷ 0 ∷ 3 ∷ 0 ∷ 128 ∷ 0 ∷ []
 unfolding request_bytes
 expansion-written = refl
 
-reset_read : read (2 ∷ 0 ∷ 4 ∷ 0 ∷ []) ≡ R.Request Q.Reset 4
-unfolding read layout_of
+reset_read : read (2 ∷ 0 ∷ 4 ∷ 0 ∷ []) ≡ Ok (Q.Reset, 4)
+unfolding read kind_of
 reset_read = refl
 
-list_read : read (2 ∷ 0 ∷ 5 ∷ 0 ∷ []) ≡ R.Request Q.List 4
-unfolding read layout_of
+list_read : read (2 ∷ 0 ∷ 5 ∷ 0 ∷ []) ≡ Ok (Q.List, 4)
+unfolding read kind_of
 list_read = refl
 
 -- ---- bad ones: cut short, an answer's kind, an unknown kind, an other length
 
 cut_short_read : read (4 ∷ 0 ∷ 3 ∷ 0 ∷ 128 ∷ []) ≡ bad
-unfolding read layout_of
+unfolding read kind_of
 cut_short_read = refl
 
 answer_read : read (4 ∷ 0 ∷ 17 ∷ 0 ∷ 128 ∷ 0 ∷ []) ≡ bad
-unfolding read layout_of
+unfolding read kind_of
 answer_read = refl
 
 unknown_read : read (4 ∷ 0 ∷ 6 ∷ 0 ∷ 128 ∷ 0 ∷ []) ≡ bad
-unfolding read layout_of
+unfolding read kind_of
 unknown_read = refl
 
 other_length-read : read (4 ∷ 0 ∷ 4 ∷ 0 ∷ 0 ∷ 0 ∷ []) ≡ bad
-unfolding read layout_of
+unfolding read kind_of
 other_length-read = refl
 
 -- .. each told as 12

@@ -6,39 +6,24 @@ use mathlib.Core.Logic.{inl, inr}
 use Prim.Native.Nat.{ℕ, ◌+◌, ◌-◌, ◌^◌, ◌≤◌, ◌<◌}
 use native.Mathlib.Omega.{arith}
 use lib.ListN.{length, take, drop, replicate, length-append, length-drop, length-replicate}
+use Rattle.std.specs.Prelude.{Ok}
 use lib.Seq.{drop-drop, drop_at, take_at, take-add, length-take-le}
 use Rattle.record.specs.declared.kind.Kind.{Kind}
 use Rattle.record.specs.declared.kind.Kind.TheVariants as K
 use Rattle.record.specs.declared.request.Request.{Request}
-use Rattle.record.specs.declared.request.Reading.TheVariants as R
-use Rattle.record.specs.Kinds.{number_of_kind, widths, length_of, is_request, layout_of}
+use Rattle.record.specs.Kinds.{number_of_kind, widths, length_of, kind_of}
 use Rattle.record.specs.Fields.{little, number, encode, decode, AllFit, AllBytes}
 use Rattle.record.specs.Records.{record_bytes, request_kind, request_fields, request_bytes, RequestFits}
 use Rattle.record.specs.Padding.{padded_length, padding, are_zero, has_its_length, padded_bytes, padded_request, StandsAs, unpadded}
-use Rattle.record.specs.Reading.{length_at, layout_at, asked, read}
+use Rattle.record.specs.Reading.{length_at, kind_at, asked, read}
 use Rattle.record.specs.Writing.{placed}
 use Rattle.record.proofs.Written.{placed_parts}
+use Rattle.record.proofs.KindLaws.{kind_back}
 use Rattle.record.proofs.Codec.{length-encode, decode_of_encode, encode_of_decode, decode_fits, bytes_drop}
 use Rattle.record.proofs.Padding.{Fits, exactly, padded, padded_no_shorter, no_shorter_by, fits_exactly, fits_padded, zeros_are_zero, are_zeros}
-use Rattle.record.proofs.Read.{read_whole, request_kind_lem, asked_back, Came, came}
+use Rattle.record.proofs.Read.{read_whole, asked_back, Came, came}
 
 -- ---- a request that was written is read back
-
--- the layout of a request's kind
-layout_back : (k : Kind) → is_request k ≡ true → layout_of (number_of_kind k) ≡ record { kind = k; length = length_of k }
-unfolding layout_of
-layout_back K.Conflict e = refl
-layout_back K.VirtualConflict e = refl
-layout_back K.Expansion e = refl
-layout_back K.Reset e = refl
-layout_back K.List e = refl
-layout_back K.Speed e = refl
-layout_back K.Create e = refl
-layout_back K.Expand e = refl
-layout_back K.End e = refl
-layout_back K.Pair e = refl
-layout_back K.VirtualPair e = refl
-layout_back K.Other e = absurd (let z : ◌≡◌ {A = ℕ} 0 1 = cc in omega arith)
 
 -- a kind's number and its padded length fit two bytes
 head_fits : (k : Kind) → (padded_length (length_of k) < 256 ^ 2) × (number_of_kind k < 256 ^ 2)
@@ -53,7 +38,6 @@ head_fits K.Expand = omega arith
 head_fits K.End = omega arith
 head_fits K.Pair = omega arith
 head_fits K.VirtualPair = omega arith
-head_fits K.Other = omega arith
 
 read_as_lem :
     (l : List ℕ) (k : Kind) (vs : List ℕ) (n : ℕ)
@@ -61,13 +45,13 @@ read_as_lem :
     → 2 + n ≤ length l
     → length_at l ≡ n
     → has_its_length (length_of k) n l ≡ true
-    → layout_at l ≡ record { kind = k; length = length_of k }
+    → kind_at l ≡ Ok k
     → decode (widths k) (drop 4 l) ≡ vs
     → read l ≡ asked k vs (2 + n)
 read_as_lem l k vs n a b e h y f =
     let w : 2 + length_at l ≤ length l = rw e b in
-    let g : has_its_length (layout_at l).length (length_at l) l ≡ true = rw (y, e) h in
-    sym (read_whole l a w g) ∙ rw (y, e, f)
+    let g : has_its_length (length_of k) (length_at l) l ≡ true = rw e h in
+    sym (read_whole l a w k y g) ∙ rw (e, f)
 
 -- a record that states the length n, with what stands behind its fields
 module _ (k : Kind) (vs rest : List ℕ) (n : ℕ) (fit : AllFit (widths k) vs) (low : length_of k ≤ n) (high : n ≤ padded_length (length_of k)) where
@@ -87,22 +71,22 @@ module _ (k : Kind) (vs rest : List ℕ) (n : ℕ) (fit : AllFit (widths k) vs) 
   pub size : length fields_there ≡ 2 + length_of k
   size = length-encode (2 ∷ 2 ∷ widths k) (n ∷ number_of_kind k ∷ vs) all_fit
 
-  read_stated : is_request k ≡ true → n - length_of k ≤ length rest → has_its_length (length_of k) n tape ≡ true → read tape ≡ asked k vs (2 + n)
-  read_stated r more h =
+  read_stated : n - length_of k ≤ length rest → has_its_length (length_of k) n tape ≡ true → read tape ≡ asked k vs (2 + n)
+  read_stated more h =
       let a = length-append fields_there rest in
       let b = size in
       let e : length_at tape ≡ n = cc (head) in
       let m : number (take 2 (drop 2 tape)) ≡ number_of_kind k = cc (head) in
       let f : decode (widths k) (drop 4 tape) ≡ vs = cc (head) in
-      read_as_lem tape k vs n (omega arith) (omega arith) e h (ap layout_of m ∙ layout_back k r) f
+      read_as_lem tape k vs n (omega arith) (omega arith) e h (ap kind_of m ∙ kind_back k) f
 
-module _ (k : Kind) (vs rest : List ℕ) (fit : AllFit (widths k) vs) (r : is_request k ≡ true) where
+module _ (k : Kind) (vs rest : List ℕ) (fit : AllFit (widths k) vs) where
   abbrev exact : ℕ
   exact = length_of k
 
   pub read-written : read (record_bytes k vs ++ rest) ≡ asked k vs (length (record_bytes k vs))
   read-written =
-      read_stated k vs rest exact fit (omega arith) (padded_no_shorter exact) r (omega arith) (fits_exactly exact exact (record_bytes k vs ++ rest) refl)
+      read_stated k vs rest exact fit (omega arith) (padded_no_shorter exact) (omega arith) (fits_exactly exact exact (record_bytes k vs ++ rest) refl)
       ∙ ap (asked k vs) (sym (size k vs rest exact fit (omega arith) (padded_no_shorter exact)))
 
   abbrev stated : ℕ
@@ -135,17 +119,17 @@ module _ (k : Kind) (vs rest : List ℕ) (fit : AllFit (widths k) vs) (r : is_re
       let more = length-append zeros rest in
       let many = length-replicate {A = ℕ} (stated - exact) 0 in
       ap read parted
-      ∙ read_stated k vs (zeros ++ rest) stated fit (padded_no_shorter exact) (omega arith) r (omega arith) (fits_padded exact stated (there ++ (zeros ++ rest)) refl zeros_behind)
+      ∙ read_stated k vs (zeros ++ rest) stated fit (padded_no_shorter exact) (omega arith) (omega arith) (fits_padded exact stated (there ++ (zeros ++ rest)) refl zeros_behind)
       ∙ ap (asked k vs) (sym padded_size)
 
 module _ (r : Request) (rest : List ℕ) (fit : RequestFits r) where
-  pub read_back : read (request_bytes r ++ rest) ≡ R.Request r (length (request_bytes r))
+  pub read_back : read (request_bytes r ++ rest) ≡ Ok (r, length (request_bytes r))
   unfolding request_bytes
-  read_back = read-written (request_kind r) (request_fields r) rest fit (request_kind_lem r) ∙ asked_back r _
+  read_back = read-written (request_kind r) (request_fields r) rest fit ∙ asked_back r _
 
-  pub read_back_padded : read (padded_request r ++ rest) ≡ R.Request r (length (padded_request r))
+  pub read_back_padded : read (padded_request r ++ rest) ≡ Ok (r, length (padded_request r))
   unfolding padded_request
-  read_back_padded = read_padded (request_kind r) (request_fields r) rest fit (request_kind_lem r) ∙ asked_back r _
+  read_back_padded = read_padded (request_kind r) (request_fields r) rest fit ∙ asked_back r _
 
 -- ---- what was read was written so
 
@@ -203,7 +187,7 @@ module _ (l : List ℕ) (bytes : AllBytes l) (r : Request) (n : ℕ) (c : Came l
   pub fields_fit : RequestFits r
   fields_fit = rw c.fields (decode_fits (widths k) (drop 4 l) (bytes_drop 4 l bytes))
 
-module _ (l : List ℕ) (r : Request) (n : ℕ) (bytes : AllBytes l) (e : read l ≡ R.Request r n) where
+module _ (l : List ℕ) (r : Request) (n : ℕ) (bytes : AllBytes l) (e : read l ≡ Ok (r, n)) where
   pub read_so : StandsAs r (take n l)
   read_so = stands_so l bytes r n (came l r n e)
 
@@ -226,5 +210,5 @@ pub placed-read :
     (r : Request) (l : List ℕ) (p : ℕ)
     → RequestFits r
     → p + length (request_bytes r) ≤ length l
-    → read (drop p (placed l p (request_bytes r))) ≡ R.Request r (length (request_bytes r))
+    → read (drop p (placed l p (request_bytes r))) ≡ Ok (r, length (request_bytes r))
 placed-read r l p fit h = rw (placed_first l p (request_bytes r) h) (read_back r (drop (p + length (request_bytes r)) l) fit)

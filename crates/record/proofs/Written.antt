@@ -9,12 +9,13 @@ use lib.Dec.{ltb}
 use lib.ListN.{length, take, drop, set, length-append}
 use lib.Seq.{sets, sets-eq}
 use borrow.Author.Tests.{lt-ltb, le-ltb}
+use Rattle.std.specs.Prelude.{Ok, Err}
 use Rattle.lists.specs.Choice.{pick}
 use Rattle.lists.specs.Stores.{stores}
 use Rattle.lists.proofs.Stores.{length-stores, stores-join}
 use Rattle.refusal.specs.declared.Refusal.TheVariants.{NoRecordRoom}
 use Rattle.refusal.specs.declared.Side.TheVariants.{Neither}
-use Rattle.refusal.specs.declared.Answer.TheVariants.{Done, Refused}
+use Rattle.refusal.specs.Refusal.{at_side}
 use Rattle.record.specs.declared.answer.Record.{Record}
 use Rattle.record.specs.declared.request.Request.{Request}
 use Rattle.record.specs.Records.{answer_bytes, request_bytes}
@@ -77,18 +78,18 @@ module _ (l : List ℕ) (p : ℕ) (bs : List ℕ) where
 
   -- a call answers by the position that writing left
   module _ (l₁ : List ℕ) (q : ℕ) (n : 0 < length bs) where
-    refused_by : (t : Bool) → out_of l₁ q ≡ pick t (out_of l p) (out_of (placed l p bs) (p + length bs)) → q ≡ p → wrote_of l₁ (Refused NoRecordRoom Neither) ≡ pick t (wrote_of l (Refused NoRecordRoom Neither)) (wrote_of (placed l p bs) (Done (length bs)))
-    refused_by true e h = ap (λ (o : Out). wrote_of o.buf (Refused NoRecordRoom Neither)) e
+    refused_by : (t : Bool) → out_of l₁ q ≡ pick t (out_of l p) (out_of (placed l p bs) (p + length bs)) → q ≡ p → wrote_of l₁ (Err (at_side NoRecordRoom Neither)) ≡ pick t (wrote_of l (Err (at_side NoRecordRoom Neither))) (wrote_of (placed l p bs) (Ok (length bs)))
+    refused_by true e h = ap (λ (o : Out). wrote_of o.buf (Err (at_side NoRecordRoom Neither))) e
     refused_by false e h =
         let f : q ≡ p + length bs = ap (λ (o : Out). o.pos) e in
         absurd (omega arith)
 
-    done_by : (t : Bool) → out_of l₁ q ≡ pick t (out_of l p) (out_of (placed l p bs) (p + length bs)) → (q ≡ p → ⊥) → wrote_of l₁ (Done (q - p)) ≡ pick t (wrote_of l (Refused NoRecordRoom Neither)) (wrote_of (placed l p bs) (Done (length bs)))
+    done_by : (t : Bool) → out_of l₁ q ≡ pick t (out_of l p) (out_of (placed l p bs) (p + length bs)) → (q ≡ p → ⊥) → wrote_of l₁ (Ok (q - p)) ≡ pick t (wrote_of l (Err (at_side NoRecordRoom Neither))) (wrote_of (placed l p bs) (Ok (length bs)))
     done_by true e h = absurd (h (ap (λ (o : Out). o.pos) e))
     done_by false e h =
         let f : q ≡ p + length bs = ap (λ (o : Out). o.pos) e in
         let g : q - p ≡ length bs = omega arith in
-        rw g (ap (λ (o : Out). wrote_of o.buf (Done (length bs))) e)
+        rw g (ap (λ (o : Out). wrote_of o.buf (Ok (length bs))) e)
 
     stays_or_moves : (t : Bool) → out_of l₁ q ≡ pick t (out_of l p) (out_of (placed l p bs) (p + length bs)) → p ≤ q
     stays_or_moves true e = omega (arith, ap (λ (o : Out). o.pos) e)
@@ -98,11 +99,11 @@ module _ (l : List ℕ) (p : ℕ) (bs : List ℕ) where
     unfolding written
     written_pos = stays_or_moves (ltb (length l - p) (length bs))
 
-    pub wrote_none : out_of l₁ q ≡ written (out_of l p) bs → q ≡ p → wrote_of l₁ (Refused NoRecordRoom Neither) ≡ wrote (out_of l p) bs
+    pub wrote_none : out_of l₁ q ≡ written (out_of l p) bs → q ≡ p → wrote_of l₁ (Err (at_side NoRecordRoom Neither)) ≡ wrote (out_of l p) bs
     unfolding written wrote
     wrote_none = refused_by (ltb (length l - p) (length bs))
 
-    pub wrote_done : out_of l₁ q ≡ written (out_of l p) bs → (q ≡ p → ⊥) → wrote_of l₁ (Done (q - p)) ≡ wrote (out_of l p) bs
+    pub wrote_done : out_of l₁ q ≡ written (out_of l p) bs → (q ≡ p → ⊥) → wrote_of l₁ (Ok (q - p)) ≡ wrote (out_of l p) bs
     unfolding written wrote
     wrote_done = done_by (ltb (length l - p) (length bs))
 

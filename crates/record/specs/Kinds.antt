@@ -1,12 +1,12 @@
 -- The kinds of records: each kind's number, the widths of its fields and so its length. 01, "Records".
-use Rattle.std.specs.Prelude.{ℕ, ◌+◌, List, [], ◌∷◌, Bool, true, false, eqb}
+use Rattle.std.specs.Prelude.{ℕ, ◌+◌, List, [], ◌∷◌, Bool, true, false, eqb, Result, Ok, Err}
 use Rattle.lists.specs.Choice.{pick}
 use Rattle.record.specs.declared.kind.Kind.{Kind}
 use Rattle.record.specs.declared.kind.Kind.TheVariants as K
-use Rattle.record.specs.declared.kind.Layout.{Layout}
+use Rattle.record.specs.declared.kind.UnknownKind.{UnknownKind}
 
 -- "Requests: 1 conflict [..] 2 virtual [..] 3 expansion [..] 4 reset [..] 5 list [..] Answers: 16 speed [..] 17 Create [..]
--- 18 Expand [..] 19 end [..] 20 pair [..] 21 virtual pair"; no record is of an other kind, nor has the number 0
+-- 18 Expand [..] 19 end [..] 20 pair [..] 21 virtual pair"
 abbrev pub number_of_kind : Kind → ℕ
 number_of_kind K.Conflict = 1
 number_of_kind K.VirtualConflict = 2
@@ -19,7 +19,6 @@ number_of_kind K.Expand = 18
 number_of_kind K.End = 19
 number_of_kind K.Pair = 20
 number_of_kind K.VirtualPair = 21
-number_of_kind K.Other = 0
 
 -- the bytes of each field: two for a node, a speed, a number given back and a side, four for a vertex
 abbrev pub widths : Kind → List ℕ
@@ -34,7 +33,6 @@ widths K.Expand = 2 ∷ []
 widths K.End = 2 ∷ 2 ∷ []
 widths K.Pair = 2 ∷ 2 ∷ 4 ∷ 4 ∷ []
 widths K.VirtualPair = 2 ∷ 4 ∷ 4 ∷ []
-widths K.Other = []
 
 abbrev pub sum : List ℕ → ℕ
 sum [] = 0
@@ -57,7 +55,6 @@ is_request K.Expand = false
 is_request K.End = false
 is_request K.Pair = false
 is_request K.VirtualPair = false
-is_request K.Other = false
 
 -- the kinds that records have
 abbrev pub kinds : List Kind
@@ -75,10 +72,10 @@ kinds =
     ∷ K.VirtualPair
     ∷ []
 
-abbrev pub layout_among : List Kind → ℕ → Layout
-layout_among [] n = record { kind = K.Other; length = 0 }
-layout_among (k ∷ ks) n = pick (eqb n (number_of_kind k)) (record { kind = k; length = length_of k }) (layout_among ks n)
+abbrev pub kind_among : List Kind → ℕ → Result Kind UnknownKind
+kind_among [] n = Err (record { 0 = n })
+kind_among (k ∷ ks) n = pick (eqb n (number_of_kind k)) (Ok k) (kind_among ks n)
 
--- the kind with the number n, and its length
-unfoldable pub layout_of : ℕ → Layout
-layout_of n = layout_among kinds n
+-- the kind with the number n, where one has it
+unfoldable pub kind_of : ℕ → Result Kind UnknownKind
+kind_of n = kind_among kinds n

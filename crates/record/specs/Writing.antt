@@ -3,8 +3,7 @@ use Rattle.std.specs.Prelude.{ℕ, ◌+◌, ◌-◌, Bool, List, [], ◌∷◌, 
 use Rattle.lists.specs.Choice.{pick}
 use Rattle.lists.specs.Stores.{stores}
 use Rattle.refusal.specs.declared.Refusal.TheVariants.{NoRecordRoom}
-use Rattle.refusal.specs.declared.Answer.{Answer}
-use Rattle.refusal.specs.Refusal.{number_of, answer_number, answer_side, answer_written}
+use Rattle.refusal.specs.Refusal.{Answer, number_of, answer_number, answer_side, answer_written}
 use Rattle.record.specs.declared.answer.Record.{Record}
 use Rattle.record.specs.Records.{answer_bytes}
 

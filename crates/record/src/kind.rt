@@ -1,5 +1,11 @@
-// The kinds of records, each with its number and its length.
-#[derive(Clone, Copy)]
+// The kinds of records, each with its number and its length (01, "Records").
+ghost use Rattle.std.specs.Prelude.{◌≡◌};
+ghost use Rattle.refusal.specs.declared.Refusal.TheVariants.{BadRecord};
+ghost use Rattle.record.specs.Kinds.{kind_of, length_of, number_of_kind};
+
+use refusal::Refusal;
+
+#[derive(Clone, Copy, PartialEq, Eq)]
 pub enum Kind {
     // Requests.
     Conflict,
@@ -14,58 +20,83 @@ pub enum Kind {
     End,
     Pair,
     VirtualPair,
-    // No record has such a kind.
-    Other,
 }
 
-// A kind, and the bytes that a record of it has after its length: none are known for an other kind.
-#[derive(Clone, Copy)]
-pub struct Layout {
-    pub kind: Kind,
-    pub length: u16,
+// A number that no kind of record has.
+#[derive(Clone, Copy, PartialEq, Eq)]
+pub struct UnknownKind(pub u16);
+
+// 01: "Bad: [..] other kind".
+impl From<UnknownKind> for Refusal {
+    ghost from_gives = { λ _ refusal. refusal ≡ BadRecord };
+
+    fn from(_number: UnknownKind) -> Refusal {
+        Refusal::BadRecord
+    }
 }
 
-// 01: "Requests: 1 conflict [..] length 18 [..] Answers: 16 speed [..] 6".
-pub const CONFLICT: u16 = 1;
+// 01: "Requests: 1 conflict [..] Answers: 16 speed [..]".
+impl TryFrom<u16> for Kind {
+    type Error = UnknownKind;
 
-pub const CONFLICT_LENGTH: u16 = 18;
+    ghost try_from_gives = { λ number r. r ≡ kind_of number };
 
-pub const VIRTUAL_CONFLICT: u16 = 2;
+    #[tactic(auto, unfolding(crate::specs::Kinds::kind_of))]
+    fn try_from(number: u16) -> Result<Kind, UnknownKind> {
+        match number {
+            1 => Ok(Kind::Conflict),
+            2 => Ok(Kind::VirtualConflict),
+            3 => Ok(Kind::Expansion),
+            4 => Ok(Kind::Reset),
+            5 => Ok(Kind::List),
+            16 => Ok(Kind::Speed),
+            17 => Ok(Kind::Create),
+            18 => Ok(Kind::Expand),
+            19 => Ok(Kind::End),
+            20 => Ok(Kind::Pair),
+            21 => Ok(Kind::VirtualPair),
+            0 | 6..=15 | 22..=65535 => Err(UnknownKind(number)),
+        }
+    }
+}
 
-pub const VIRTUAL_CONFLICT_LENGTH: u16 = 14;
+impl From<Kind> for u16 {
+    ghost from_gives = { λ kind number. number ≡ number_of_kind kind };
 
-pub const EXPANSION: u16 = 3;
+    fn from(kind: Kind) -> u16 {
+        match kind {
+            Kind::Conflict => 1,
+            Kind::VirtualConflict => 2,
+            Kind::Expansion => 3,
+            Kind::Reset => 4,
+            Kind::List => 5,
+            Kind::Speed => 16,
+            Kind::Create => 17,
+            Kind::Expand => 18,
+            Kind::End => 19,
+            Kind::Pair => 20,
+            Kind::VirtualPair => 21,
+        }
+    }
+}
 
-pub const EXPANSION_LENGTH: u16 = 4;
-
-pub const RESET: u16 = 4;
-
-pub const RESET_LENGTH: u16 = 2;
-
-pub const LIST: u16 = 5;
-
-pub const LIST_LENGTH: u16 = 2;
-
-pub const SPEED: u16 = 16;
-
-pub const SPEED_LENGTH: u16 = 6;
-
-pub const CREATE: u16 = 17;
-
-pub const CREATE_LENGTH: u16 = 4;
-
-pub const EXPAND: u16 = 18;
-
-pub const EXPAND_LENGTH: u16 = 4;
-
-pub const END: u16 = 19;
-
-pub const END_LENGTH: u16 = 6;
-
-pub const PAIR: u16 = 20;
-
-pub const PAIR_LENGTH: u16 = 14;
-
-pub const VIRTUAL_PAIR: u16 = 21;
-
-pub const VIRTUAL_PAIR_LENGTH: u16 = 12;
+impl Kind {
+    // The bytes that a record of this kind has after its length field, without padding.
+    pub fn length(self) -> u16
+        ensures { result ≡ length_of self }
+    {
+        match self {
+            Kind::Conflict => 18,
+            Kind::VirtualConflict => 14,
+            Kind::Expansion => 4,
+            Kind::Reset => 2,
+            Kind::List => 2,
+            Kind::Speed => 6,
+            Kind::Create => 4,
+            Kind::Expand => 4,
+            Kind::End => 6,
+            Kind::Pair => 14,
+            Kind::VirtualPair => 12,
+        }
+    }
+}

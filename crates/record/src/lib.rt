@@ -7,5 +7,5 @@ pub mod layout;
 pub mod request;
 
 pub use answer::{Pair, Record, Speed, VirtualPair};
-pub use kind::{Kind, Layout};
+pub use kind::{Kind, UnknownKind};
 pub use request::{Conflict, Expansion, Reading, Request, VirtualConflict};

@@ -2,7 +2,7 @@
 use refusal::Refusal;
 use slot::{Node, Vertex};
 
-#[derive(Clone, Copy)]
+#[derive(Clone, Copy, PartialEq, Eq)]
 pub struct Conflict {
     pub node_1: Node,
     pub node_2: Node,
@@ -12,7 +12,7 @@ pub struct Conflict {
     pub vertex_2: Vertex,
 }
 
-#[derive(Clone, Copy)]
+#[derive(Clone, Copy, PartialEq, Eq)]
 pub struct VirtualConflict {
     pub node: Node,
     pub touch: Node,
@@ -20,12 +20,12 @@ pub struct VirtualConflict {
     pub virtual_vertex: Vertex,
 }
 
-#[derive(Clone, Copy)]
+#[derive(Clone, Copy, PartialEq, Eq)]
 pub struct Expansion {
     pub node: Node,
 }
 
-#[derive(Clone, Copy)]
+#[derive(Clone, Copy, PartialEq, Eq)]
 pub enum Request {
     Conflict(Conflict),
     VirtualConflict(VirtualConflict),
@@ -34,9 +34,5 @@ pub enum Request {
     List,
 }
 
-// What stands first on a tape: a request with the bytes that its record fills, or a refusal.
-#[derive(Clone, Copy)]
-pub enum Reading {
-    Request(Request, usize),
-    Refused(Refusal),
-}
+// What stands first on a tape: a request with the bytes that its record fills, or why there is none.
+pub type Reading = Result<(Request, usize), Refusal>;

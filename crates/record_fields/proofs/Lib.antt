@@ -1,1 +1,2 @@
-pub mod FieldsLaws
+pub mod Words
+pub mod Halves

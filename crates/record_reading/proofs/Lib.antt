@@ -1,3 +1,1 @@
-pub mod FieldsLaws
 pub mod PaddingLaws
-pub mod ReadingLaws

@@ -13,7 +13,7 @@ pub fn narrow_at(tape: &[u8], at: usize) -> u16
     requires { at + 2 ≤ length tape.now }
     ensures { result ≡ number (take 2 (drop at tape.now)) }
 {
-    (tape[at] as u16) + (tape[at + 1] as u16) * 256
+    u16::from_le_bytes([tape[at], tape[at + 1]])
 }
 
 // The four-byte number that starts at a place.
@@ -21,9 +21,10 @@ pub fn wide_at(tape: &[u8], at: usize) -> u32
     requires { at + 4 ≤ length tape.now }
     ensures { result ≡ number (take 4 (drop at tape.now)) }
 {
-    (narrow_at(tape, at) as u32) + (narrow_at(tape, at + 2) as u32) * 65536
+    u32::from_le_bytes([tape[at], tape[at + 1], tape[at + 2], tape[at + 3]])
 }
 
+// Kept: three functions and not one, since each names other fields and each is called once, by its type.
 pub fn conflict_at(tape: &[u8]) -> Conflict
     requires { 20 ≤ length tape.now }
     ensures { result ≡ conflict_from (decode (widths K.Conflict) (drop 4 tape.now)) }

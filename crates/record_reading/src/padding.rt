@@ -2,19 +2,10 @@
 ghost use Rattle.std.specs.Prelude.{◌≡◌, ◌+◌, ◌-◌, ◌≤◌, length, take, drop};
 ghost use Rattle.record.specs.Padding.{are_zero, has_its_length};
 
-// Whether the bytes from one place of the tape up to another are zero.
-fn are_zero(tape: &[u8], from: usize, to: usize) -> bool
-    requires { to ≤ length tape.now }
-    ensures { result ≡ are_zero (take (to - from) (drop from tape.now)) }
+fn are_zero(bytes: &[u8]) -> bool
+    ensures { result ≡ are_zero bytes.now }
 {
-    let mut i = from;
-    while i < to {
-        if tape[i] != 0 {
-            return false;
-        }
-        i += 1;
-    }
-    true
+    bytes.iter().all(|b| *b == 0)
 }
 
 // Whether a record that states this length has that of its kind: exact, or padded with zeros.
@@ -28,5 +19,5 @@ pub fn has_its_length(tape: &[u8], exact: u16, stated: u16) -> bool
     if stated as u32 != exact as u32 + record::layout::padding_of(exact) as u32 {
         return false;
     }
-    are_zero(tape, (exact as usize) + 2, (stated as usize) + 2)
+    are_zero(&tape[(exact as usize) + 2..(stated as usize) + 2])
 }

@@ -1,58 +1,43 @@
-// Writing requests, as a tape holds them.
-ghost use Rattle.std.specs.Prelude.{◌≡◌};
+// The requests with many fields.
+ghost use Rattle.record.specs.declared.request.Request.TheVariants as Q;
 ghost use Rattle.record.specs.Records.{request_bytes};
-ghost use Rattle.record.specs.Writing.{out_of, written, wrote_of, wrote};
+ghost use Rattle.record_fields.specs.Outputs.{Wrote};
 
-use record::{Request, kind};
-use refusal::{Answer, Refusal, Side};
+use record::{Conflict, Kind, VirtualConflict};
+use record_fields::Output;
 
-// Writes a request at pos, and returns the position after it; without room for all of it, nothing, and pos.
-#[tactic(auto, unfolding(record::specs::Records::request_bytes))]
-fn put_request(out: &mut [u8], pos: usize, request: Request) -> usize
-    ensures { out_of out.new result ≡ written (out_of out.old pos) (request_bytes request) }
+#[tactic(auto, using(record_fields::proofs::Halves::halves), unfolding(record::specs::Records::request_bytes))]
+pub fn conflict(out: &mut Output, conflict: Conflict)
+    ensures { Wrote (request_bytes (Q.Conflict conflict)) out.old out.new }
 {
-    match request {
-        Request::Conflict(conflict) => record_fields::runs::narrow_6_wide_2(
-            out,
-            pos,
-            kind::CONFLICT_LENGTH,
-            kind::CONFLICT,
+    out.put(
+        Kind::Conflict,
+        [
             conflict.node_1.0,
             conflict.node_2.0,
             conflict.touch_1.0,
             conflict.touch_2.0,
-            conflict.vertex_1.0,
-            conflict.vertex_2.0,
-        ),
-        Request::VirtualConflict(virtual_conflict) => record_fields::runs::narrow_4_wide_2(
-            out,
-            pos,
-            kind::VIRTUAL_CONFLICT_LENGTH,
-            kind::VIRTUAL_CONFLICT,
-            virtual_conflict.node.0,
-            virtual_conflict.touch.0,
-            virtual_conflict.vertex.0,
-            virtual_conflict.virtual_vertex.0,
-        ),
-        Request::Expansion(expansion) => record_fields::runs::narrow_3(
-            out,
-            pos,
-            kind::EXPANSION_LENGTH,
-            kind::EXPANSION,
-            expansion.node.0,
-        ),
-        Request::Reset => record_fields::runs::narrow_2(out, pos, kind::RESET_LENGTH, kind::RESET),
-        Request::List => record_fields::runs::narrow_2(out, pos, kind::LIST_LENGTH, kind::LIST),
-    }
+            conflict.vertex_1.low_word(),
+            conflict.vertex_1.high_word(),
+            conflict.vertex_2.low_word(),
+            conflict.vertex_2.high_word(),
+        ],
+    );
 }
 
-// The bytes written, or a refusal with nothing written.
-pub fn write_request(out: &mut [u8], pos: usize, request: Request) -> Answer
-    ensures { wrote_of out.new result ≡ wrote (out_of out.old pos) (request_bytes request) }
+#[tactic(auto, using(record_fields::proofs::Halves::halves), unfolding(record::specs::Records::request_bytes))]
+pub fn virtual_conflict(out: &mut Output, conflict: VirtualConflict)
+    ensures { Wrote (request_bytes (Q.VirtualConflict conflict)) out.old out.new }
 {
-    let end = put_request(out, pos, request);
-    if end == pos {
-        return Answer::Refused(Refusal::NoRecordRoom, Side::Neither);
-    }
-    Answer::Done(end - pos)
+    out.put(
+        Kind::VirtualConflict,
+        [
+            conflict.node.0,
+            conflict.touch.0,
+            conflict.vertex.low_word(),
+            conflict.vertex.high_word(),
+            conflict.virtual_vertex.low_word(),
+            conflict.virtual_vertex.high_word(),
+        ],
+    );
 }

@@ -1,5 +1,5 @@
 -- A number stands for one refusal, another for one side; both with the bytes written for one answer.
-use mathlib.Core.Path.{◌≡◌, refl, sym, ap, ◌∙◌}
+use mathlib.Core.Path.{◌≡◌, refl, sym, ap, ap₂, ◌∙◌}
 use mathlib.Core.List.{List, [], ◌∷◌}
 use Prim.Native.Nat.{ℕ, ◌<◌}
 use native.Mathlib.Omega.{arith}
@@ -8,9 +8,9 @@ use Rattle.refusal.specs.declared.Refusal.{Refusal}
 use Rattle.refusal.specs.declared.Refusal.TheVariants.{NotSound, NoRecordRoom, NoSuchNode, NotOuter, SameNode, TouchOutside, NotGrowing, NoBlossomSlot, NoCommandRoom, NoListingRoom, NotExpandable, BadRecord, BadBegin}
 use Rattle.refusal.specs.declared.Side.{Side}
 use Rattle.refusal.specs.declared.Side.TheVariants.{Neither, First, Second}
-use Rattle.refusal.specs.declared.Answer.{Answer}
-use Rattle.refusal.specs.declared.Answer.TheVariants.{Done, Refused}
-use Rattle.refusal.specs.Refusal.{number_of, side_number, answer_number, answer_side, answer_written}
+use Rattle.std.specs.Prelude.{Ok, Err}
+use Rattle.refusal.specs.declared.Refused.{Refused}
+use Rattle.refusal.specs.Refusal.{Answer, number_of, side_number, at_side, answer_number, answer_side, answer_written}
 
 -- ---- refusals
 
@@ -84,14 +84,14 @@ same_side s u e = sym (side_back s) ∙ ap side_with e ∙ side_back u
 
 -- ---- answers
 
-pub is_done : (r : Answer) → answer_number r ≡ 0 → r ≡ Done (answer_written r)
-is_done (Done k) e = refl
-is_done (Refused n s) e = absurd (omega (arith, number_some n))
+pub is_done : (r : Answer) → answer_number r ≡ 0 → r ≡ Ok (answer_written r)
+is_done (Ok k) e = refl
+is_done (Err x) e = absurd (omega (arith, e, number_some x.refusal))
 
-pub is_refused : (r : Answer) (n : Refusal) (s : Side) → answer_number r ≡ number_of n → answer_side r ≡ side_number s → r ≡ Refused n s
-is_refused (Done k) n s e f = absurd (omega (arith, number_some n))
-is_refused (Refused m u) n s e f = rw (same_refusal m n e, same_side u s f)
+pub is_refused : (r : Answer) (x : Refused) → answer_number r ≡ number_of x.refusal → answer_side r ≡ side_number x.side → r ≡ Err x
+is_refused (Ok k) x e f = absurd (omega (arith, e, number_some x.refusal))
+is_refused (Err y) x e f = ap Err (ap₂ at_side (same_refusal y.refusal x.refusal e) (same_side y.side x.side f))
 
 pub same_answer : (r r' : Answer) → answer_number r ≡ answer_number r' → answer_side r ≡ answer_side r' → answer_written r ≡ answer_written r' → r ≡ r'
-same_answer r (Done k) e f w = is_done r e ∙ ap Done w
-same_answer r (Refused n s) e f w = is_refused r n s e f
+same_answer r (Ok k) e f w = is_done r e ∙ ap Ok w
+same_answer r (Err x) e f w = is_refused r x e f

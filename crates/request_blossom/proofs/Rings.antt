@@ -1,69 +1,56 @@
--- The steps of the functions that make the ring, in the code's order: for each loop one lemma an exit and one a turn.
-use mathlib.Core.Path.{◌≡◌, refl, ◌∙◌}
+-- The walks that make the ring, one turn at a time: what is left to do without a turn, and after one.
+use mathlib.Core.Path.{◌≡◌, refl}
 use Prim.Native.Nat.{ℕ, zero, suc, ◌-◌}
 use borrow.Author.Tests.{eq-eqb, ne_eqb}
 use Rattle.lists.proofs.Budget.{fewer}
 use Rattle.slot.specs.Slot.{Link, mirror}
-use Rattle.table.specs.Table.{Table, at}
+use Rattle.table.specs.Table.{Table, at, put}
 use Rattle.rules.specs.Act.{choose, alter}
 use Rattle.rules.specs.Slots.{up}
-use Rattle.rules.specs.Blossom.{enclosed, ring_up, ring_down, ringed}
+use Rattle.rules.specs.Blossom.{enclosed, ring_up, ring_down}
 
-module _ (t : Table) (b m n : ℕ) where
-  pub up_spent : (k : ℕ) → k ≡ 0 → t ≡ ring_up k b m n t
-  unfolding ring_up
-  up_spent k e = rw e
+pub up_spent : (k b m n : ℕ) (t : Table) → k ≡ 0 → ring_up k b m n t ≡ t
+unfolding ring_up
+up_spent k b m n t e = rw e
 
-  pub up_there : (k : ℕ) → n ≡ m → t ≡ ring_up k b m n t
-  unfolding ring_up choose
-  up_there zero e = refl
-  up_there (suc k) e = rw (eq-eqb n m e)
+pub up_there : (k b m n : ℕ) (t : Table) → n ≡ m → ring_up k b m n t ≡ t
+unfolding ring_up choose
+up_there zero b m n t e = refl
+up_there (suc k) b m n t e = rw (eq-eqb n m e)
 
-  pub up_more :
-      (k above : ℕ) (l : Link) (u : Table)
-      → (k ≡ 0 → ⊥)
-      → (n ≡ m → ⊥)
-      → above ≡ up t n
-      → l ≡ (at t n).link
-      → u ≡ alter n (enclosed b above l) t
-      → ring_up (k - 1) b m above u ≡ ring_up k b m n t
-  unfolding ring_up choose
-  up_more zero above l u h q e r s = absurd (h refl)
-  up_more (suc k) above l u h q e r s = rw (fewer k, ne_eqb n m q, s, e, r)
+pub up_turn :
+    (k b m n : ℕ) (t : Table)
+    → (k ≡ 0 → ⊥)
+    → (n ≡ m → ⊥)
+    → ring_up k b m n t ≡ ring_up (k - 1) b m (up t n) (put t n (enclosed b (up t n) (at t n).link (at t n)))
+unfolding ring_up choose alter
+up_turn zero b m n t h q = absurd (h refl)
+up_turn (suc k) b m n t h q = rw (fewer k, ne_eqb n m q)
 
-  module _ (after : ℕ) (l : Link) where
-    pub down_spent : (k : ℕ) → k ≡ 0 → t ≡ ring_down k b m after l n t
-    unfolding ring_down
-    down_spent k e = rw e
+pub ruleset ups = (up_spent, up_there, up_turn)
 
-    pub down-there :
-        (k : ℕ) (j : Link) (u : Table)
-        → (k ≡ 0 → ⊥)
-        → j ≡ mirror l
-        → u ≡ alter n (enclosed b after j) t
-        → n ≡ m
-        → u ≡ ring_down k b m after l n t
-    unfolding ring_down choose
-    down-there zero j u h r e q = absurd (h refl)
-    down-there (suc k) j u h r e q = e ∙ rw (r, eq-eqb n m q)
+module _ (k b m after : ℕ) (l : Link) (n : ℕ) (t : Table) where
+  pub down_spent : k ≡ 0 → ring_down k b m after l n t ≡ t
+  unfolding ring_down
+  down_spent e = rw e
 
-    pub down-more :
-        (k above : ℕ) (o j : Link) (u : Table)
-        → (k ≡ 0 → ⊥)
-        → above ≡ up t n
-        → o ≡ (at t n).link
-        → j ≡ mirror l
-        → u ≡ alter n (enclosed b after j) t
-        → (n ≡ m → ⊥)
-        → ring_down (k - 1) b m n o above u ≡ ring_down k b m after l n t
-    unfolding ring_down choose
-    down-more zero above o j u h e f g r q = absurd (h refl)
-    down-more (suc k) above o j u h e f g r q = rw (fewer k, ne_eqb n m q, r, g, f, e)
+pub down_there :
+    (k b m after : ℕ) (l : Link) (n : ℕ) (t : Table)
+    → (k ≡ 0 → ⊥)
+    → n ≡ m
+    → ring_down k b m after l n t ≡ put t n (enclosed b after (mirror l) (at t n))
+unfolding ring_down choose alter
+down_there zero b m after l n t h q = absurd (h refl)
+down_there (suc k) b m after l n t h q = rw (eq-eqb n m q)
 
-pub ringed-step :
-    (t t₁ t₂ : Table) (b m x y : ℕ) (l : Link)
-    → t₁ ≡ ring_up 256 b m x t
-    → t₂ ≡ ring_down 256 b m x l y t₁
-    → t₂ ≡ ringed b m x y l t
-unfolding ringed
-ringed-step t t₁ t₂ b m x y l e f = f ∙ rw e
+pub down_turn :
+    (k b m after : ℕ) (l : Link) (n : ℕ) (t : Table)
+    → (k ≡ 0 → ⊥)
+    → (n ≡ m → ⊥)
+    → ring_down k b m after l n t
+    ≡ ring_down (k - 1) b m n (at t n).link (up t n) (put t n (enclosed b after (mirror l) (at t n)))
+unfolding ring_down choose alter
+down_turn zero b m after l n t h q = absurd (h refl)
+down_turn (suc k) b m after l n t h q = rw (fewer k, ne_eqb n m q)
+
+pub ruleset downs = (down_spent, down_there, down_turn)

@@ -8,55 +8,56 @@ pub mod transfer;
 ghost use Rattle.std.specs.Prelude.{◌≡◌};
 ghost use Rattle.slot.specs.Slot.{link_of};
 ghost use Rattle.table.specs.Words.{table_of};
-ghost use Rattle.rules.specs.Act.{world_of, run};
+ghost use Rattle.rules.specs.Doing.{Does};
 ghost use Rattle.rules.specs.Blossom.{blossom_placed, create_blossom};
 
+use record_answers::commands;
+use record_fields::Output;
 use slot::{Link, Node, Slot, State};
-use table::Table;
+use table::{Table, counts, storing};
 
-// 01: the new blossom is "Grow, and [takes] the meeting node's parent, list place and link"; its ring begins at the meeting node.
-fn place_blossom(t: &mut Table, b: Node, m: Node)
-    ensures { table_of t.new ≡ blossom_placed b.0 m.0 (table_of t.old) }
-{
-    let s = table::get(t, m);
-    let parent = s.parent;
-    let sibling = s.sibling;
-    let link = s.link;
-    table::storing::store(
-        t,
-        b,
-        Slot {
-            state: State::Grow,
-            parent,
-            first_child: Node(slot::number::NO_NODE),
-            sibling,
-            ring: m,
-            link,
-        },
-    );
-    if parent.0 == slot::number::NO_NODE {
-        return;
-    }
-    list::alternating_tree_replace_child_with(t, parent, m, b);
+// The ring of a new blossom: the ways from x and from y to the node where they meet, and a link between x and y, as x sees it.
+#[derive(Clone, Copy)]
+pub struct Ring {
+    pub blossom: Node,
+    pub meeting: Node,
+    pub x: Node,
+    pub y: Node,
+    pub link: Link,
 }
 
-// The blossom b of x and y, which meet at m, joined by link as x sees it; so many blossoms are then given out.
-pub fn create_blossom(
-    t: &mut Table,
-    out: &mut [u8],
-    pos: usize,
-    b: Node,
-    given: u16,
-    m: Node,
-    x: Node,
-    y: Node,
-    link: Link,
-) -> usize
-    ensures { world_of t.new out.new result ≡ run (world_of t.old out.old pos) (create_blossom b.0 given m.0 x.0 y.0 (link_of link)) }
-{
-    table::counts::set_count_blossoms(t, given);
-    place_blossom(t, b, m);
-    transfer::transfer_two_paths(t, b, m, x, y);
-    crate::ringing::connect_ring(t, b, m, x, y, link);
-    record_answers::create(out, pos, b)
+impl Ring {
+    // 01: the new blossom is "Grow, and [takes] the meeting node's parent, list place and link"; its ring begins at the meeting node.
+    #[tactic(auto, using(crate::proofs::Placed::placed))]
+    fn place_blossom(self, t: &mut Table)
+        ensures { table_of t.new ≡ blossom_placed self.blossom.0 self.meeting.0 (table_of t.old) }
+    {
+        let s = table::get(t, self.meeting);
+        let parent = s.parent;
+        storing::store(
+            t,
+            self.blossom,
+            Slot {
+                state: State::Grow,
+                first_child: Node::NONE,
+                ring: self.meeting,
+                ..s
+            },
+        );
+        if !parent.is_none() {
+            list::alternating_tree_replace_child_with(t, parent, self.meeting, self.blossom);
+        }
+    }
+
+    // So many blossoms are then given out.
+    #[tactic(auto, using(rules::proofs::Runs::runs), unfolding(rules::specs::Blossom::create_blossom))]
+    pub fn create_blossom(self, t: &mut Table, out: &mut Output, given: u16)
+        ensures { Does (create_blossom self.blossom.0 given self.meeting.0 self.x.0 self.y.0 (link_of self.link)) t.old out.old t.new out.new }
+    {
+        counts::set_count_blossoms(t, given);
+        self.place_blossom(t);
+        self.transfer_two_paths(t);
+        self.connect_ring(t);
+        commands::create(out, self.blossom);
+    }
 }

@@ -5,75 +5,75 @@ ghost use Rattle.slot.specs.Slot.{link_of};
 ghost use Rattle.table.specs.Words.{table_of};
 ghost use Rattle.rules.specs.Blossom.{ring_up, ring_down, ringed};
 
-use slot::{Link, Node, State};
-use table::Table;
+use crate::Ring;
+use slot::{Node, Slot, State};
+use table::layout::SLOTS;
+use table::{Table, storing};
 
-// node_1's side, from n on: each goes on to its parent, up to the meeting node m, by its own link.
-fn ring_up(t: &mut Table, b: Node, m: Node, n: Node)
-    ensures { table_of t.new ≡ ring_up 256 b.0 m.0 n.0 (table_of t.old) }
-{
-    let mut here = n;
-    let mut left: usize = 256;
-    loop {
-        if left == 0 {
-            return;
+impl Ring {
+    // node_1's side, from x on: each goes on to its parent, up to the meeting node, by its own link.
+    #[tactic(auto, using(crate::proofs::Rings::ups))]
+    fn ring_up(self, t: &mut Table)
+        ensures { table_of t.new ≡ ring_up 256 self.blossom.0 self.meeting.0 self.x.0 (table_of t.old) }
+    {
+        let mut here = self.x;
+        for _ in 0..SLOTS {
+            if here == self.meeting {
+                return;
+            }
+            let s = table::get(t, here);
+            storing::store(
+                t,
+                here,
+                Slot {
+                    state: State::Inner,
+                    parent: self.blossom,
+                    first_child: Node::NONE,
+                    sibling: s.parent,
+                    ..s
+                },
+            );
+            here = s.parent;
         }
-        if here.0 == m.0 {
-            return;
-        }
-        let above = table::field::parent(t, here);
-        let link = table::field::link(t, here);
-        request_matching::altering::shape(
-            t,
-            here,
-            State::Inner,
-            b,
-            Node(slot::number::NO_NODE),
-            above,
-            link,
-        );
-        here = above;
-        left -= 1;
     }
-}
 
-// node_2's side, from n on, and the meeting node: each goes on to the node passed just before, by that node's link turned round.
-// The first goes on to x by link, as x sees it.
-fn ring_down(t: &mut Table, b: Node, m: Node, x: Node, link: Link, n: Node)
-    ensures { table_of t.new ≡ ring_down 256 b.0 m.0 x.0 (link_of link) n.0 (table_of t.old) }
-{
-    let mut after = x;
-    let mut after_link = link;
-    let mut here = n;
-    let mut left: usize = 256;
-    loop {
-        if left == 0 {
-            return;
+    // node_2's side, from y on, and the meeting node: each goes on to the node passed just before, by that node's link turned round.
+    // The first goes on to x.
+    #[tactic(auto, using(crate::proofs::Rings::downs))]
+    fn ring_down(self, t: &mut Table)
+        ensures { table_of t.new ≡ ring_down 256 self.blossom.0 self.meeting.0 self.x.0 (link_of self.link) self.y.0 (table_of t.old) }
+    {
+        let mut after = self.x;
+        let mut after_link = self.link;
+        let mut here = self.y;
+        for _ in 0..SLOTS {
+            let s = table::get(t, here);
+            storing::store(
+                t,
+                here,
+                Slot {
+                    state: State::Inner,
+                    parent: self.blossom,
+                    first_child: Node::NONE,
+                    sibling: after,
+                    link: after_link.mirrored(),
+                    ..s
+                },
+            );
+            if here == self.meeting {
+                return;
+            }
+            after = here;
+            after_link = s.link;
+            here = s.parent;
         }
-        let above = table::field::parent(t, here);
-        let here_link = table::field::link(t, here);
-        request_matching::altering::shape(
-            t,
-            here,
-            State::Inner,
-            b,
-            Node(slot::number::NO_NODE),
-            after,
-            slot::link::mirrored(after_link),
-        );
-        if here.0 == m.0 {
-            return;
-        }
-        after = here;
-        after_link = here_link;
-        here = above;
-        left -= 1;
     }
-}
 
-pub fn connect_ring(t: &mut Table, b: Node, m: Node, x: Node, y: Node, link: Link)
-    ensures { table_of t.new ≡ ringed b.0 m.0 x.0 y.0 (link_of link) (table_of t.old) }
-{
-    ring_up(t, b, m, x);
-    ring_down(t, b, m, x, link, y);
+    #[tactic(auto, unfolding(rules::specs::Blossom::ringed))]
+    pub fn connect_ring(self, t: &mut Table)
+        ensures { table_of t.new ≡ ringed self.blossom.0 self.meeting.0 self.x.0 self.y.0 (link_of self.link) (table_of t.old) }
+    {
+        self.ring_up(t);
+        self.ring_down(t);
+    }
 }

@@ -1,20 +1,14 @@
--- The steps of each function, in the code's order: for each loop one lemma an exit and one a turn.
+-- The walks that attach ring nodes, one turn at a time: what is left to do without a turn, and after one.
 use mathlib.Core.Path.{◌≡◌, refl}
 use mathlib.Core.Bool.{Bool, true, false, not}
 use Prim.Native.Nat.{ℕ, zero, suc, ◌-◌}
 use borrow.Author.Tests.{eq-eqb, ne_eqb}
 use Rattle.lists.proofs.Budget.{fewer}
-use Rattle.slot.specs.declared.state.State.{State}
-use Rattle.slot.specs.Number.{none}
 use Rattle.slot.specs.Slot.{Link, mirror}
-use Rattle.table.specs.Table.{Table, at}
-use Rattle.record.specs.declared.answer.Speed.{Speed}
-use Rattle.record.specs.Records.{answer_bytes}
-use Rattle.record.specs.Writing.{Out, written}
-use Rattle.rules.specs.Act.{Act, World, run, choose, alter, speed}
-use Rattle.rules.specs.Slots.{shaped}
-use Rattle.rules.specs.Expansion.{state_by, speed_by, attach, attach_down, attach_up}
-use Rattle.rules.proofs.Runs.{world, runs, run-skip, run_yes, run_no}
+use Rattle.table.specs.Table.{at}
+use Rattle.rules.specs.Act.{Act, World, run, choose}
+use Rattle.rules.specs.Expansion.{attach, attach_down, attach_up}
+use Rattle.rules.proofs.Runs.{runs, run-skip, run_yes, run_no}
 
 -- a choice that is made
 module _ (w : World) (f g : Act) where
@@ -24,67 +18,59 @@ module _ (w : World) (f g : Act) where
   pub run_false : run w (choose false f g) ≡ run w g
   run_false = run_no w false f g refl
 
-pub attach-step :
-    (t t₁ : Table) (o o₁ : Out) (n : ℕ) (grow : Bool) (parent child : ℕ) (l : Link) (v : Speed) (x : State)
-    → v ≡ speed_by grow
-    → o₁ ≡ written o (answer_bytes (speed n v))
-    → x ≡ state_by grow
-    → t₁ ≡ alter n (shaped x parent child none l) t
-    → world t₁ o₁ ≡ run (world t o) (attach n grow parent child l)
-unfolding attach
-attach-step t t₁ o o₁ n grow parent child l v x e f g h = simp runs (cc)
-
-module _ (w : World) (c below : ℕ) (grow : Bool) (parent : ℕ) (l : Link) (n : ℕ) where
-  pub down_spent : (k : ℕ) → k ≡ 0 → w ≡ run w (attach_down k c below grow parent l n)
+module _ (w : World) where
+  pub down_spent :
+      (k c below : ℕ) (grow : Bool) (parent : ℕ) (l : Link) (n : ℕ)
+      → k ≡ 0
+      → run w (attach_down k c below grow parent l n) ≡ w
   unfolding attach_down
-  down_spent k e = rw (e, run-skip)
+  down_spent k c below grow parent l n e = rw (e, run-skip)
 
-  pub down-there :
-      (k : ℕ) (w₁ : World)
+  pub down_there :
+      (k c below : ℕ) (grow : Bool) (parent : ℕ) (l : Link) (n : ℕ)
       → (k ≡ 0 → ⊥)
       → n ≡ c
-      → w₁ ≡ run w (attach n grow parent below l)
-      → w₁ ≡ run w (attach_down k c below grow parent l n)
+      → run w (attach_down k c below grow parent l n) ≡ run w (attach n grow parent below l)
   unfolding attach_down
-  down-there zero w₁ h q r = absurd (h refl)
-  down-there (suc k) w₁ h q r = simp (runs, run_true, eq-eqb n c q) (cc)
+  down_there zero c below grow parent l n h q = absurd (h refl)
+  down_there (suc k) c below grow parent l n h q = simp (runs, run_true, eq-eqb n c q)
 
-  pub down-more :
-      (k after : ℕ) (own j : Link) (w₁ : World)
+  pub down_turn :
+      (k c below : ℕ) (grow : Bool) (parent : ℕ) (l : Link) (n : ℕ)
       → (k ≡ 0 → ⊥)
-      → own ≡ (at w.table n).link
-      → after ≡ (at w.table n).sibling
       → (n ≡ c → ⊥)
-      → w₁ ≡ run w (attach n grow parent after l)
-      → j ≡ mirror own
-      → run w₁ (attach_down (k - 1) c below (not grow) n j after) ≡ run w (attach_down k c below grow parent l n)
+      → run w (attach_down k c below grow parent l n)
+      ≡ run (run w (attach n grow parent (at w.table n).sibling l)) (attach_down (k - 1) c below (not grow) n (mirror (at w.table n).link) (at w.table n).sibling)
   unfolding attach_down
-  down-more zero after own j w₁ h e f q r m = absurd (h refl)
-  down-more (suc k) after own j w₁ h e f q r m = simp (runs, run_false, fewer k, ne_eqb n c q) (cc)
+  down_turn zero c below grow parent l n h q = absurd (h refl)
+  down_turn (suc k) c below grow parent l n h q = simp (runs, run_false, fewer k, ne_eqb n c q)
 
-module _ (w : World) (p above : ℕ) (l : Link) (grow : Bool) (child n : ℕ) where
-  pub up_spent : (k : ℕ) → k ≡ 0 → w ≡ run w (attach_up k p above l grow child n)
+  pub up_spent :
+      (k p above : ℕ) (l : Link) (grow : Bool) (child n : ℕ)
+      → k ≡ 0
+      → run w (attach_up k p above l grow child n) ≡ w
   unfolding attach_up
-  up_spent k e = rw (e, run-skip)
+  up_spent k p above l grow child n e = rw (e, run-skip)
 
   pub up_there :
-      (k : ℕ) (w₁ : World)
+      (k p above : ℕ) (l : Link) (grow : Bool) (child n : ℕ)
       → (k ≡ 0 → ⊥)
       → n ≡ p
-      → w₁ ≡ run w (attach n grow above child l)
-      → w₁ ≡ run w (attach_up k p above l grow child n)
+      → run w (attach_up k p above l grow child n) ≡ run w (attach n grow above child l)
   unfolding attach_up
-  up_there zero w₁ h q r = absurd (h refl)
-  up_there (suc k) w₁ h q r = simp (runs, run_true, eq-eqb n p q) (cc)
+  up_there zero p above l grow child n h q = absurd (h refl)
+  up_there (suc k) p above l grow child n h q = simp (runs, run_true, eq-eqb n p q)
 
-  pub up_more :
-      (k after : ℕ) (own : Link) (w₁ : World)
+  pub up_turn :
+      (k p above : ℕ) (l : Link) (grow : Bool) (child n : ℕ)
       → (k ≡ 0 → ⊥)
-      → own ≡ (at w.table n).link
-      → after ≡ (at w.table n).sibling
       → (n ≡ p → ⊥)
-      → w₁ ≡ run w (attach n grow after child own)
-      → run w₁ (attach_up (k - 1) p above l (not grow) n after) ≡ run w (attach_up k p above l grow child n)
+      → run w (attach_up k p above l grow child n)
+      ≡ run (run w (attach n grow (at w.table n).sibling child (at w.table n).link)) (attach_up (k - 1) p above l (not grow) n (at w.table n).sibling)
   unfolding attach_up
-  up_more zero after own w₁ h e f q r = absurd (h refl)
-  up_more (suc k) after own w₁ h e f q r = simp (runs, run_false, fewer k, ne_eqb n p q) (cc)
+  up_turn zero p above l grow child n h q = absurd (h refl)
+  up_turn (suc k) p above l grow child n h q = simp (runs, run_false, fewer k, ne_eqb n p q)
+
+pub ruleset downs = (down_spent, down_there, down_turn)
+
+pub ruleset ups = (up_spent, up_there, up_turn)

@@ -1,3 +1,2 @@
 pub mod AttachingSteps
 pub mod OpeningSteps
-pub mod ExpansionSteps

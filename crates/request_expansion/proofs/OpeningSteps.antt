@@ -1,9 +1,9 @@
--- The steps of each function, in the code's order: for each loop one lemma an exit and one a turn.
-use mathlib.Core.Path.{◌≡◌, refl, sym}
+-- The ring that is opened: its walks one turn at a time, and the whole by whether d is even.
+use mathlib.Core.Path.{◌≡◌, refl}
 use mathlib.Core.Bool.{false}
-use Prim.Native.Nat.{ℕ, zero, suc, ◌-◌, ◌+◌, ◌%◌}
-use native.Mathlib.Omega.{arith}
+use Prim.Native.Nat.{ℕ, zero, suc, ◌+◌, ◌-◌, ◌%◌}
 use borrow.Author.Tests.{eq-eqb, ne_eqb}
+use Rattle.lists.proofs.Budget.{fewer}
 use Rattle.slot.specs.Slot.{Link}
 use Rattle.table.specs.Table.{Table, at}
 use Rattle.rules.specs.Act.{World, run, choose}
@@ -11,71 +11,63 @@ use Rattle.rules.specs.Slots.{next}
 use Rattle.rules.specs.Matching.{temporary_match}
 use Rattle.rules.specs.Expansion.{steps_to, match_chain, attach_down, attach_up, ring_opened}
 use Rattle.rules.proofs.Runs.{runs, run-skip}
-use Rattle.lists.proofs.Budget.{fewer}
 use Rattle.request_expansion.proofs.AttachingSteps.{run_true, run_false}
 
 -- ---- along the ring
 
--- what is counted already and what is left
-pub all_passed : (c d e : ℕ) → d ≡ 0 → c + d ≡ e → c ≡ e
-all_passed c d e p q = omega arith
+pub steps_spent : (k c n : ℕ) (t : Table) → k ≡ 0 → steps_to k c n t ≡ 0
+unfolding steps_to
+steps_spent k c n t e = rw e
 
-pub one_passed : (c d d' e : ℕ) → d' + 1 ≡ d → c + d ≡ e → c + 1 + d' ≡ e
-one_passed c d d' e p q = omega arith
+pub steps_there : (k c n : ℕ) (t : Table) → n ≡ c → steps_to k c n t ≡ 0
+unfolding steps_to choose
+steps_there zero c n t e = refl
+steps_there (suc k) c n t e = rw (eq-eqb n c e)
 
-module _ (t : Table) (c n : ℕ) where
-  pub steps_spent : (k : ℕ) → k ≡ 0 → steps_to k c n t ≡ 0
-  unfolding steps_to
-  steps_spent k e = rw e
+pub steps_turn : (k c n : ℕ) (t : Table) → (k ≡ 0 → ⊥) → (n ≡ c → ⊥) → steps_to k c n t ≡ steps_to (k - 1) c (next t n) t + 1
+unfolding steps_to choose
+steps_turn zero c n t h q = absurd (h refl)
+steps_turn (suc k) c n t h q = rw (fewer k, ne_eqb n c q)
 
-  pub steps_there : (k : ℕ) → n ≡ c → steps_to k c n t ≡ 0
-  unfolding steps_to choose
-  steps_there zero e = refl
-  steps_there (suc k) e = rw (eq-eqb n c e)
+pub ruleset steps = (steps_spent, steps_there, steps_turn)
 
-  pub steps_more : (k p : ℕ) → (k ≡ 0 → ⊥) → (n ≡ c → ⊥) → p ≡ next t n → steps_to (k - 1) c p t + 1 ≡ steps_to k c n t
-  unfolding steps_to choose
-  steps_more zero p h q e = absurd (h refl)
-  steps_more (suc k) p h q e = rw (fewer k, e, ne_eqb n c q)
-
-module _ (w : World) (end n : ℕ) where
-  pub chain_spent : (k : ℕ) → k ≡ 0 → w ≡ run w (match_chain k end n)
+module _ (w : World) where
+  pub chain_spent : (k end n : ℕ) → k ≡ 0 → run w (match_chain k end n) ≡ w
   unfolding match_chain
-  chain_spent k e = rw (e, run-skip)
+  chain_spent k end n e = rw (e, run-skip)
 
-  pub chain_there : (k : ℕ) → n ≡ end → w ≡ run w (match_chain k end n)
+  pub chain_there : (k end n : ℕ) → n ≡ end → run w (match_chain k end n) ≡ w
   unfolding match_chain
-  chain_there zero e = sym (run-skip w)
-  chain_there (suc k) e = simp (eq-eqb n end e, run_true, run-skip)
+  chain_there zero end n e = run-skip w
+  chain_there (suc k) end n e = simp (eq-eqb n end e, run_true, run-skip)
 
-  -- the turn as one equation, so that its answer finds what was read before the match and what the match left by themselves
-  pub chain-turn :
-      (k : ℕ)
+  pub chain_turn :
+      (k end n : ℕ)
       → (k ≡ 0 → ⊥)
       → (n ≡ end → ⊥)
       → run w (match_chain k end n)
       ≡ run (run w (temporary_match n (at w.table n).link (next w.table n))) (match_chain (k - 1) end (next w.table (next w.table n)))
   unfolding match_chain
-  chain-turn zero h q = absurd (h refl)
-  chain-turn (suc k) h q = simp (runs, run_false, fewer k, ne_eqb n end q)
+  chain_turn zero end n h q = absurd (h refl)
+  chain_turn (suc k) end n h q = simp (runs, run_false, fewer k, ne_eqb n end q)
+
+pub ruleset chains = (chain_spent, chain_there, chain_turn)
 
 -- ---- the whole
 
-module _ (w w₁ w₂ : World) (p c above below : ℕ) (l : Link) (d first : ℕ) (e : d ≡ steps_to 256 c p w.table) where
+module _ (w : World) (p c above below : ℕ) (l : Link) where
   pub opened_even :
-      d % 2 ≡ 0
-      → first ≡ (at w.table c).sibling
-      → w₁ ≡ run w (match_chain 256 p first)
-      → w₂ ≡ run w₁ (attach_down 256 c below false above l p)
-      → w₂ ≡ run w (ring_opened p c above below l)
+      steps_to 256 c p w.table % 2 ≡ 0
+      → run w (ring_opened p c above below l)
+      ≡ run (run w (match_chain 256 p (next w.table c))) (attach_down 256 c below false above l p)
   unfolding ring_opened
-  opened_even q f g h = simp (runs, run_true, ← e, eq-eqb (d % 2) 0 q) (cc)
+  opened_even q = simp (runs, run_true, eq-eqb (steps_to 256 c p w.table % 2) 0 q)
 
   pub opened_odd :
-      (d % 2 ≡ 0 → ⊥)
-      → first ≡ (at w.table p).sibling
-      → w₁ ≡ run w (match_chain 256 c first)
-      → w₂ ≡ run w₁ (attach_up 256 p above l false below c)
-      → w₂ ≡ run w (ring_opened p c above below l)
+      (steps_to 256 c p w.table % 2 ≡ 0 → ⊥)
+      → run w (ring_opened p c above below l)
+      ≡ run (run w (match_chain 256 c (next w.table p))) (attach_up 256 p above l false below c)
   unfolding ring_opened
-  opened_odd q f g h = simp (runs, run_false, ← e, ne_eqb (d % 2) 0 q) (cc)
+  opened_odd q = simp (runs, run_false, ne_eqb (steps_to 256 c p w.table % 2) 0 q)
+
+pub ruleset openings = (opened_even, opened_odd)

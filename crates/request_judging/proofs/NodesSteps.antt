@@ -3,7 +3,7 @@ use mathlib.Core.Path.{◌≡◌, ◌∙◌}
 use mathlib.Core.Bool.{true, false, not}
 use Prim.Native.Nat.{ℕ, ◌≤◌, ◌<◌}
 use lib.Dec.{eqb}
-use borrow.Author.Tests.{leb-true, leb-false, lt-ltb, le-ltb, le-leb, lt-leb, eq-eqb, ne_eqb}
+use borrow.Author.Tests.{leb-true, leb-false, lt-ltb, le-ltb, le-leb, lt-leb}
 use Rattle.slot.specs.declared.state.State.{State}
 use Rattle.slot.specs.declared.state.State.TheVariants as S
 use Rattle.table.specs.Table.{Table, at}
@@ -26,21 +26,23 @@ module _ (t : Table) (n : ℕ) where
   pub seen_new : n < 256 → is_blossom t n ≡ false → present t n ≡ false → S.Grow ≡ seen_state t n
   seen_new h b p = rw (lt-leb 256 n h, lt-ltb n t.begin (leb-false t.begin n b), p)
 
-  module _ (b touch : ℕ) (e : b ≡ t.begin) where
-    pub elsewhere_blossom : b ≤ touch → true ≡ elsewhere t n touch
+  module _ (touch : ℕ) where
+    pub elsewhere_blossom : t.begin ≤ touch → elsewhere t n touch ≡ true
     unfolding elsewhere
-    elsewhere_blossom h = let h' : t.begin ≤ touch = rw e at h in rw (le-ltb touch t.begin h')
+    elsewhere_blossom h = rw (le-ltb touch t.begin h)
 
-    pub elsewhere_itself : touch < b → touch ≡ n → false ≡ elsewhere t n touch
+    pub elsewhere_itself : touch < t.begin → eqb touch n ≡ true → elsewhere t n touch ≡ false
     unfolding elsewhere
-    elsewhere_itself h q = let h' : touch < t.begin = rw e at h in rw (lt-ltb touch t.begin h', eq-eqb touch n q)
+    elsewhere_itself h q = rw (lt-ltb touch t.begin h, q)
 
-    pub elsewhere_by : (o : ℕ) → touch < b → (touch ≡ n → ⊥) → o ≡ outer_blossom t touch → not (eqb o n) ≡ elsewhere t n touch
+    pub elsewhere_by : touch < t.begin → eqb touch n ≡ false → elsewhere t n touch ≡ not (eqb (outer_blossom t touch) n)
     unfolding elsewhere
-    elsewhere_by o h q f = let h' : touch < t.begin = rw e at h in rw (lt-ltb touch t.begin h', ne_eqb touch n q, f)
+    elsewhere_by h q = rw (lt-ltb touch t.begin h, q)
 
   pub defect_not_expandable : is_blossom t n ≡ false → true ≡ is_not_expandable t n
   defect_not_expandable b = rw b
 
   pub expandable_by : (s x : State) → is_blossom t n ≡ true → s ≡ (at t n).state → s ≡ x → not (is_shrink x) ≡ is_not_expandable t n
   expandable_by s x b e q = rw (b, ← e, q)
+
+pub ruleset elsewhere_cases = (elsewhere_blossom, elsewhere_itself, elsewhere_by)

@@ -14,7 +14,7 @@ use Rattle.table.specs.Nodes.{inner, is_defect}
 use Rattle.table.specs.Climb.{inside, inside_within, outer_blossom, outer_blossom_within}
 use Rattle.table.proofs.Climbs.{inside_here}
 use Rattle.rules.specs.Trees.{seen}
-use Rattle.rules.specs.Refusals.{is_no_node, is_no_vertex, is_no_side, is_outside}
+use Rattle.rules.specs.Refusals.{is_no_vertex, is_no_side, is_not_outer, is_outside}
 use Rattle.request_judging.specs.Seen.{seen_state, elsewhere}
 
 or_none : (a : Bool) → (a || false) ≡ a
@@ -31,19 +31,14 @@ no_slot : (p : Bool) (s : State) → (p || not (is_present s)) ≡ not (is_prese
 no_slot true s = refl
 no_slot false s = refl
 
-no_node_read : (t : Table) (n : ℕ) (s : State) → s ≡ seen_state t n → is_no_node t n ≡ not (is_present s)
-no_node_read t n s e = no_slot (leb 256 n) (seen t n).state ∙ ap (λ (x : State). not (is_present x)) (sym e)
-
-pub side_read : (t : Table) (n v : ℕ) (s : State) → s ≡ seen_state t n → (not (is_present s) || is_no_vertex v) ≡ is_no_side t n v
-side_read t n v s e = ap (λ (b : Bool). b || is_no_vertex v) (sym (no_node_read t n s e))
-
-present_slot : (p : Bool) (s u : State) → not (is_present s) ≡ false → s ≡ pick p S.Empty u → s ≡ u
-present_slot true s u h e = absurd (true≢false (rw e at h))
-present_slot false s u h e = e
+pub side_seen : (t : Table) (n v : ℕ) → is_no_side t n v ≡ (not (is_present (seen_state t n)) || is_no_vertex v)
+side_seen t n v = ap (λ (b : Bool). b || is_no_vertex v) (no_slot (leb 256 n) (seen t n).state)
 
 -- a node that passes 3 is read as it is seen
-pub state_read : (t : Table) (n : ℕ) (s : State) (x : Bool) → s ≡ seen_state t n → (not (is_present s) || x) ≡ false → s ≡ (seen t n).state
-state_read t n s x e h = present_slot (leb 256 n) s (seen t n).state (first_false (not (is_present s)) x h) e
+pub state_seen : (t : Table) (n v : ℕ) → is_no_side t n v ≡ false → seen_state t n ≡ (seen t n).state
+state_seen t n v h =
+    let slot : leb 256 n ≡ false = first_false _ (not (is_present (seen t n).state)) (first_false _ (is_no_vertex v) h) in
+    rw slot refl
 
 -- ---- 6
 
@@ -96,12 +91,8 @@ inside-outer-node true t x n e q = inside_here t x n 256 (eqb-true n x e) ∙ rw
 inside-outer-node false t x n e q = rw e (inside_by_outer 256 t x n q)
 
 -- of a node that passes 4, a touch is outside exactly if it is elsewhere
-pub outside-elsewhere :
-    (t : Table) (n touch : ℕ) (s : State)
-    → s ≡ (seen t n).state
-    → not (is_outer s) ≡ false
-    → is_outside t n touch ≡ elsewhere t n touch
+pub outside-elsewhere : (t : Table) (n touch : ℕ) → is_not_outer t n ≡ false → is_outside t n touch ≡ elsewhere t n touch
 unfolding elsewhere
-outside-elsewhere t n touch s e h =
-    let q : inner t n ≡ false = slot_not_inner (is_defect t n) (at t n) (rw e at h) in
+outside-elsewhere t n touch h =
+    let q : inner t n ≡ false = slot_not_inner (is_defect t n) (at t n) h in
     ap (λ (i : Bool). not (is_defect t touch && i)) (inside-outer-node (eqb touch n) t n touch refl q)

@@ -1,33 +1,38 @@
--- The climb to a root one step at a time, as the code's loop takes it, and one tree told by two roots.
-use mathlib.Core.Path.{◌≡◌, refl}
-use mathlib.Core.Bool.{false}
-use Prim.Native.Nat.{ℕ, zero, suc, ◌-◌}
+-- The climb to a root one step at a time, as the code's loop takes it: after i tests 257 - i are left.
+use mathlib.Core.Path.{◌≡◌}
+use mathlib.Core.Bool.{true, false}
+use Prim.Native.Nat.{ℕ, zero, suc, ◌+◌, ◌-◌, ◌≤◌, ◌<◌}
+use native.Mathlib.Numerals.{add-one}
 use lib.Dec.{eqb}
-use borrow.Author.Tests.{eq-eqb, ne_eqb}
-use Rattle.lists.proofs.Budget.{fewer}
+use Rattle.lists.proofs.Budget.{one_left, none_left}
 use Rattle.slot.specs.Number.{none}
-use Rattle.table.specs.Table.{Table}
-use Rattle.rules.specs.Slots.{up}
-use Rattle.rules.specs.Trees.{root_within, same_tree, root}
+use Rattle.table.specs.Table.{Table, at}
+use Rattle.rules.specs.Trees.{root_within}
 
-module _ (t : Table) (n p : ℕ) (e : p ≡ up t n) where
-  pub root_there : (k : ℕ) → p ≡ none → n ≡ root_within k t n
+-- the root that so many tests come to: k steps make suc k tests
+abbrev pub root_tested : ℕ → Table → ℕ → ℕ
+root_tested zero t n = none
+root_tested (suc k) t n = root_within k t n
+
+module _ (t : Table) (n : ℕ) where
+  there : (k : ℕ) → eqb (at t n).parent none ≡ true → root_within k t n ≡ n
   unfolding root_within
-  root_there zero q = rw (← e, eq-eqb p none q)
-  root_there (suc k) q = rw (← e, eq-eqb p none q)
+  there zero q = rw q
+  there (suc k) q = rw q
 
-  pub root_spent : (k : ℕ) → (p ≡ none → ⊥) → k ≡ 0 → none ≡ root_within k t n
+  more : (k : ℕ) → eqb (at t n).parent none ≡ false → root_within k t n ≡ root_tested k t (at t n).parent
   unfolding root_within
-  root_spent k h q = rw (q, ← e, ne_eqb p none h)
+  more zero q = rw q
+  more (suc k) q = rw q
 
-  pub root_more : (k : ℕ) → (p ≡ none → ⊥) → (k ≡ 0 → ⊥) → root_within (k - 1) t p ≡ root_within k t n
-  unfolding root_within
-  root_more zero h q = absurd (q refl)
-  root_more (suc k) h q = rw (fewer k, ← e, ne_eqb p none h)
+  pub root_spent : (i : ℕ) → 257 ≤ i → root_tested (257 - i) t n ≡ none
+  root_spent i h = rw (none_left i 257 h)
 
-module _ (t : Table) (a b x : ℕ) (e : x ≡ root t a) where
-  pub no_root : x ≡ none → false ≡ same_tree t a b
-  no_root q = rw (← e, eq-eqb x none q)
+  module _ (i : ℕ) (h : i < 257) where
+    pub root_there : eqb (at t n).parent none ≡ true → root_tested (257 - i) t n ≡ n
+    root_there q = rw (one_left i 257 h) (there (257 - suc i) q)
 
-  pub by_roots : (y : ℕ) → (x ≡ none → ⊥) → y ≡ root t b → eqb x y ≡ same_tree t a b
-  by_roots y h f = rw (← e, ← f, ne_eqb x none h)
+    pub root_more : eqb (at t n).parent none ≡ false → root_tested (257 - i) t n ≡ root_tested (257 - (i + 1)) t (at t n).parent
+    root_more q = rw (one_left i 257 h, add-one) (more (257 - suc i) q)
+
+pub ruleset climbs = (root_spent, root_there, root_more)

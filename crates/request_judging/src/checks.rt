@@ -14,17 +14,14 @@ use table::{Table, field};
 pub fn is_no_vertex(v: Vertex) -> bool
     ensures { result ≡ is_no_vertex v.0 }
 {
-    v.0 == slot::number::NO_VERTEX
+    v.is_none()
 }
 
 // 3 at one side of a request: its node, of which this state is read, or the vertex that it touches.
 pub fn is_no_side(seen: State, v: Vertex) -> bool
     ensures { result ≡ (not (is_present seen) || is_no_vertex v.0) }
 {
-    if crate::states::is_no_node(seen) {
-        return true;
-    }
-    is_no_vertex(v)
+    !seen.is_present() || is_no_vertex(v)
 }
 
 // Whether a node has a parent or a child.
@@ -32,36 +29,21 @@ fn in_tree(t: &Table, n: Node) -> bool
     ensures { result ≡ in_tree (at (table_of t.now) n.0) }
 {
     let s = table::get(t, n);
-    if s.parent.0 != slot::number::NO_NODE {
-        return true;
-    }
-    s.first_child.0 != slot::number::NO_NODE
+    !s.parent.is_none() || !s.first_child.is_none()
 }
 
 // The same as the checks read it: a node that is still to be loaded is in no tree.
 fn seen_in_tree(t: &Table, n: Node) -> bool
     ensures { result ≡ in_tree (seen (table_of t.now) n.0) }
 {
-    if field::is_blossom(t, n) {
-        return in_tree(t, n);
-    }
-    if field::has_node(t, n) {
-        return in_tree(t, n);
-    }
-    false
+    (field::is_blossom(t, n) || field::has_node(t, n)) && in_tree(t, n)
 }
 
 // 8: a blossom is to be made, and no slot is left.
 pub fn makes_blossom(t: &Table, x: Node, y: Node) -> bool
     ensures { result ≡ makes_blossom (table_of t.now) x.0 y.0 }
 {
-    if !seen_in_tree(t, x) {
-        return false;
-    }
-    if !seen_in_tree(t, y) {
-        return false;
-    }
-    crate::trees::same_tree(t, x, y)
+    seen_in_tree(t, x) && seen_in_tree(t, y) && crate::trees::same_tree(t, x, y)
 }
 
 pub fn lacks_blossom_slot(t: &Table) -> bool

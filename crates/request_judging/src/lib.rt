@@ -12,9 +12,11 @@ ghost use Rattle.rules.specs.Refusals.{first_of, conflict_node_checks, virtual_n
 
 use record::{Conflict, Expansion, VirtualConflict};
 use refusal::{Refusal, Side, Verdict};
+use slot::State;
 use table::Table;
 
 // 3, 4, 5, 6, 7, 8: the first that applies. 3, 4 and 6 are tried at node_1 and then at node_2, and name that side.
+#[tactic(auto, using(crate::proofs::JudgingSteps::conflict_tried))]
 pub fn judge_conflict(t: &Table, c: Conflict) -> Verdict
     ensures { result ≡ first_of (conflict_node_checks (table_of t.now) c) }
 {
@@ -29,41 +31,42 @@ pub fn judge_conflict(t: &Table, c: Conflict) -> Verdict
     let outside_2 = nodes::touches_elsewhere(t, node_2, touch_2);
     let seen_1 = nodes::seen_state(t, node_1);
     if checks::is_no_side(seen_1, vertex_1) {
-        return Verdict::Refused(Refusal::NoSuchNode, Side::First);
+        return Err(Refusal::NoSuchNode.at(Side::First));
     }
     let seen_2 = nodes::seen_state(t, node_2);
     if checks::is_no_side(seen_2, vertex_2) {
-        return Verdict::Refused(Refusal::NoSuchNode, Side::Second);
+        return Err(Refusal::NoSuchNode.at(Side::Second));
     }
-    if states::is_not_outer(seen_1) {
-        return Verdict::Refused(Refusal::NotOuter, Side::First);
+    if !seen_1.is_outer() {
+        return Err(Refusal::NotOuter.at(Side::First));
     }
-    if states::is_not_outer(seen_2) {
-        return Verdict::Refused(Refusal::NotOuter, Side::Second);
+    if !seen_2.is_outer() {
+        return Err(Refusal::NotOuter.at(Side::Second));
     }
-    if node_1.0 == node_2.0 {
-        return Verdict::Refused(Refusal::SameNode, Side::Neither);
+    if node_1 == node_2 {
+        return Err(Refusal::SameNode.into());
     }
     if outside_1 {
-        return Verdict::Refused(Refusal::TouchOutside, Side::First);
+        return Err(Refusal::TouchOutside.at(Side::First));
     }
     if outside_2 {
-        return Verdict::Refused(Refusal::TouchOutside, Side::Second);
+        return Err(Refusal::TouchOutside.at(Side::Second));
     }
     if states::are_not_growing(seen_1, seen_2) {
-        return Verdict::Refused(Refusal::NotGrowing, Side::Neither);
+        return Err(Refusal::NotGrowing.into());
     }
     // A slot is nearly always left, and then the trees are not asked.
     if !checks::lacks_blossom_slot(t) {
-        return Verdict::Accepted;
+        return Ok(());
     }
     if checks::makes_blossom(t, node_1, node_2) {
-        return Verdict::Refused(Refusal::NoBlossomSlot, Side::Neither);
+        return Err(Refusal::NoBlossomSlot.into());
     }
-    Verdict::Accepted
+    Ok(())
 }
 
 // 3, 4, 6, 7: the first that applies; its node, its vertex and the virtual vertex are all of the first side.
+#[tactic(auto, using(crate::proofs::JudgingSteps::virtual_tried))]
 pub fn judge_virtual_conflict(t: &Table, c: VirtualConflict) -> Verdict
     ensures { result ≡ first_of (virtual_node_checks (table_of t.now) c) }
 {
@@ -73,30 +76,31 @@ pub fn judge_virtual_conflict(t: &Table, c: VirtualConflict) -> Verdict
     let virtual_vertex = c.virtual_vertex;
     let seen = nodes::seen_state(t, node);
     if checks::is_no_side(seen, vertex) {
-        return Verdict::Refused(Refusal::NoSuchNode, Side::First);
+        return Err(Refusal::NoSuchNode.at(Side::First));
     }
     if checks::is_no_vertex(virtual_vertex) {
-        return Verdict::Refused(Refusal::NoSuchNode, Side::First);
+        return Err(Refusal::NoSuchNode.at(Side::First));
     }
-    if states::is_not_outer(seen) {
-        return Verdict::Refused(Refusal::NotOuter, Side::First);
+    if !seen.is_outer() {
+        return Err(Refusal::NotOuter.at(Side::First));
     }
     if nodes::touches_elsewhere(t, node, touch) {
-        return Verdict::Refused(Refusal::TouchOutside, Side::First);
+        return Err(Refusal::TouchOutside.at(Side::First));
     }
-    if !states::is_growing(seen) {
-        return Verdict::Refused(Refusal::NotGrowing, Side::Neither);
+    if seen != State::Grow {
+        return Err(Refusal::NotGrowing.into());
     }
-    Verdict::Accepted
+    Ok(())
 }
 
 // 11.
+#[tactic(auto, using(crate::proofs::JudgingSteps::expansion_tried))]
 pub fn judge_expansion(t: &Table, e: Expansion) -> Verdict
     ensures { result ≡ first_of (expansion_node_checks (table_of t.now) e) }
 {
     let node = e.node;
     if nodes::is_not_expandable(t, node) {
-        return Verdict::Refused(Refusal::NotExpandable, Side::Neither);
+        return Err(Refusal::NotExpandable.into());
     }
-    Verdict::Accepted
+    Ok(())
 }

@@ -26,6 +26,7 @@ pub fn seen_state(t: &Table, n: Node) -> State
 }
 
 // 6 of an outer node: the touch must be a defect, and this the outer node that it is inside.
+#[tactic(auto, using(crate::proofs::NodesSteps::elsewhere_cases))]
 pub fn touches_elsewhere(t: &Table, n: Node, touch: Node) -> bool
     ensures { result ≡ elsewhere (table_of t.now) n.0 touch.0 }
 {
@@ -33,27 +34,16 @@ pub fn touches_elsewhere(t: &Table, n: Node, touch: Node) -> bool
     if begin <= touch.0 {
         return true;
     }
-    if touch.0 == n.0 {
+    if touch == n {
         return false;
     }
     let outer = climb::get_outer_blossom(t, touch);
-    outer.0 != n.0
+    outer != n
 }
 
 // 11: only a − blossom is taken apart.
 pub fn is_not_expandable(t: &Table, n: Node) -> bool
     ensures { result ≡ is_not_expandable (table_of t.now) n.0 }
 {
-    if !field::is_blossom(t, n) {
-        return true;
-    }
-    let state = field::state(t, n);
-    match state {
-        State::Empty => true,
-        State::Inner => true,
-        State::Stay => true,
-        State::Grow => true,
-        State::Shrink => false,
-        State::Damaged => true,
-    }
+    !field::is_blossom(t, n) || field::state(t, n) != State::Shrink
 }

@@ -4,34 +4,28 @@ ghost use Rattle.table.specs.Words.{table_of};
 ghost use Rattle.rules.specs.Trees.{root, same_tree};
 
 use slot::Node;
-use table::Table;
+use table::{Table, field};
 
 // The node without a parent that the way up from n comes to, or none if there is no such node within 256 steps.
+// Kept: the definition `root` gives a number, none where no root is reached; a climb may also start at none, and then comes to it.
+#[tactic(auto, using(crate::proofs::TreesSteps::climbs))]
 fn root_of(t: &Table, n: Node) -> Node
     ensures { result.0 ≡ root (table_of t.now) n.0 }
 {
     let mut here = n;
-    let mut steps_left: usize = 256;
-    loop {
-        let above = table::field::parent(t, here);
-        if above.0 == slot::number::NO_NODE {
+    for _ in 0..257usize {
+        let above = field::parent(t, here);
+        if above.is_none() {
             return here;
         }
-        if steps_left == 0 {
-            return Node(slot::number::NO_NODE);
-        }
         here = above;
-        steps_left -= 1;
     }
+    Node::NONE
 }
 
 pub fn same_tree(t: &Table, a: Node, b: Node) -> bool
     ensures { result ≡ same_tree (table_of t.now) a.0 b.0 }
 {
     let root_a = root_of(t, a);
-    if root_a.0 == slot::number::NO_NODE {
-        return false;
-    }
-    let root_b = root_of(t, b);
-    root_a.0 == root_b.0
+    !root_a.is_none() && root_a == root_of(t, b)
 }

@@ -1,15 +1,14 @@
--- Each function, one step at a time: its premises in the code's order, its own promise as the conclusion.
-use mathlib.Core.Path.{◌≡◌, refl, sym, ◌∙◌}
+-- What each walk of the listing writes, one step at a time, as the code takes them.
+use mathlib.Core.Path.{◌≡◌, refl}
 use mathlib.Core.Bool.{true, false}
 use mathlib.Core.List.{[], ◌∷◌}
-use Prim.Native.Nat.{ℕ, zero, suc, ◌-◌, ◌*◌, ◌<◌, ◌≤◌}
-use native.Mathlib.Omega.{arith}
+use Prim.Native.Nat.{ℕ, zero, suc, ◌+◌, ◌-◌}
+use native.Mathlib.Numerals.{add-one}
 use borrow.Author.Tests.{eq-eqb, ne_eqb}
 use Rattle.lists.proofs.Budget.{fewer}
 use Rattle.slot.specs.Slot.{Link}
 use Rattle.table.specs.Table.{Table, at}
 use Rattle.table.specs.Nodes.{is_blossom, outer}
-use Rattle.record.specs.declared.answer.Pair.{Pair}
 use Rattle.record.specs.declared.answer.Record.TheVariants as R
 use Rattle.record.specs.declared.answer.Record.{Record}
 use Rattle.record.specs.Records.{answer_bytes}
@@ -31,111 +30,70 @@ unfolding write_all
 one_written o r = refl
 
 module _ (t : Table) (o : Out) where
-  module _ (n touch k : ℕ) where
-    pub inside-yes :
-        (o₁ : Out)
-        → is_blossom t n ≡ true
-        → o₁ ≡ write_all o (levels_listed k n touch t)
-        → o₁ ≡ write_all o (inside_listed k n touch t)
+  module _ (k n touch : ℕ) where
+    pub inside_yes : is_blossom t n ≡ true → write_all o (inside_listed k n touch t) ≡ write_all o (levels_listed k n touch t)
     unfolding inside_listed
-    inside-yes o₁ b e = e ∙ rw (choose_yes (λ u. levels_listed k n touch u) nothing t (is_blossom t n) b)
+    inside_yes b = rw (choose_yes (λ u. levels_listed k n touch u) nothing t (is_blossom t n) b)
 
-    pub inside_no : is_blossom t n ≡ false → o ≡ write_all o (inside_listed k n touch t)
+    pub inside_no : is_blossom t n ≡ false → write_all o (inside_listed k n touch t) ≡ o
     unfolding inside_listed
     inside_no b = rw (choose_no (λ u. levels_listed k n touch u) nothing t (is_blossom t n) b, nothing_written)
 
-  pub pair_spent : (k n peer : ℕ) (l : Link) → k ≡ 0 → o ≡ write_all o (pair_listed k n peer l t)
+  pub pair_spent : (k n peer : ℕ) (l : Link) → k ≡ 0 → write_all o (pair_listed k n peer l t) ≡ o
   unfolding pair_listed
   pair_spent k n peer l e = rw (e, nothing_written)
 
-  pub pair_step :
-      (k n peer : ℕ) (l : Link) (o₁ o₂ o₃ : Out) (r : Pair)
+  pub pair_more :
+      (k n peer : ℕ) (l : Link)
       → (k ≡ 0 → ⊥)
-      → o₁ ≡ write_all o (inside_listed (k - 1) n l.touch t)
-      → o₂ ≡ write_all o₁ (inside_listed (k - 1) peer l.peer_touch t)
-      → r ≡ pair_of l
-      → o₃ ≡ written o₂ (answer_bytes (R.Pair r))
-      → o₃ ≡ write_all o (pair_listed k n peer l t)
+      → write_all o (pair_listed k n peer l t)
+      ≡ written (write_all (write_all o (inside_listed (k - 1) n l.touch t)) (inside_listed (k - 1) peer l.peer_touch t)) (answer_bytes (R.Pair (pair_of l)))
   unfolding pair_listed inside_listed
-  pair_step zero n peer l o₁ o₂ o₃ r h p q s e = absurd (h refl)
-  pair_step (suc k) n peer l o₁ o₂ o₃ r h p q s e =
-      let p' = rw (fewer k) at p in
-      let q' = rw (fewer k) at q in
-      e ∙ rw (s, write_all_append, write_all_append, ← p', ← q', one_written)
+  pair_more zero n peer l h = absurd (h refl)
+  pair_more (suc k) n peer l h = rw (fewer k, write_all_append, write_all_append, one_written)
 
-  pub levels_spent : (k b n : ℕ) → k ≡ 0 → o ≡ write_all o (levels_listed k b n t)
+  pub levels_spent : (k b n : ℕ) → k ≡ 0 → write_all o (levels_listed k b n t) ≡ o
   unfolding levels_listed
   levels_spent k b n e = rw (e, nothing_written)
 
-  pub levels_outer : (k b n : ℕ) → outer t n ≡ true → o ≡ write_all o (levels_listed k b n t)
+  pub levels_outer : (k b n : ℕ) → outer t n ≡ true → write_all o (levels_listed k b n t) ≡ o
   unfolding levels_listed choose
   levels_outer zero b n h = rw nothing_written
   levels_outer (suc k) b n h = rw (h, nothing_written)
 
-  pub levels-last :
-      (k b n s up : ℕ) (o₁ : Out)
-      → (k ≡ 0 → ⊥)
-      → outer t n ≡ false
-      → s ≡ (at t n).sibling
-      → o₁ ≡ write_all o (ring_listed (k - 1) n s t)
-      → up ≡ (at t n).parent
-      → up ≡ b
-      → o₁ ≡ write_all o (levels_listed k b n t)
+  pub levels_last : (k b n : ℕ) → outer t n ≡ false → (at t n).parent ≡ b → write_all o (levels_listed (k + 1) b n t) ≡ write_all o (ring_listed k n (at t n).sibling t)
   unfolding levels_listed choose
-  levels-last zero b n s up o₁ h g e p u d = absurd (h refl)
-  levels-last (suc k) b n s up o₁ h g e p u d =
-      let p' = rw (fewer k, e) at p in
-      let d' : (at t n).parent ≡ b = sym u ∙ d in
-      p' ∙ rw (g, eq-eqb (at t n).parent b d', write_all_append, nothing_written)
+  levels_last k b n g d = rw (add-one, g, eq-eqb (at t n).parent b d, write_all_append, nothing_written)
 
-  pub levels-more :
-      (k b n s up : ℕ) (o₁ o₂ : Out)
-      → (k ≡ 0 → ⊥)
+  pub levels_more :
+      (k b n : ℕ)
       → outer t n ≡ false
-      → s ≡ (at t n).sibling
-      → o₁ ≡ write_all o (ring_listed (k - 1) n s t)
-      → up ≡ (at t n).parent
-      → (up ≡ b → ⊥)
-      → o₂ ≡ write_all o₁ (levels_listed (k - 1) b up t)
-      → o₂ ≡ write_all o (levels_listed k b n t)
+      → ((at t n).parent ≡ b → ⊥)
+      → write_all o (levels_listed (k + 1) b n t) ≡ write_all (write_all o (ring_listed k n (at t n).sibling t)) (levels_listed k b (at t n).parent t)
   unfolding levels_listed choose
-  levels-more zero b n s up o₁ o₂ h g e p u d q = absurd (h refl)
-  levels-more (suc k) b n s up o₁ o₂ h g e p u d q =
-      let p' = rw (fewer k, e) at p in
-      let q' = rw (fewer k, u) at q in
-      let d' : (at t n).parent ≡ b → ⊥ = λ z. d (u ∙ z) in
-      q' ∙ rw (p', g, ne_eqb (at t n).parent b d', write_all_append)
+  levels_more k b n g d = rw (add-one, g, ne_eqb (at t n).parent b d, write_all_append)
 
-  pub ring_spent : (k touched n : ℕ) → k ≡ 0 → o ≡ write_all o (ring_listed k touched n t)
+  pub ring_spent : (k touched n : ℕ) → k ≡ 0 → write_all o (ring_listed k touched n t) ≡ o
   unfolding ring_listed
   ring_spent k touched n e = rw (e, nothing_written)
 
-  pub ring_end : (k touched n : ℕ) → n ≡ touched → o ≡ write_all o (ring_listed k touched n t)
+  pub ring_end : (k touched n : ℕ) → n ≡ touched → write_all o (ring_listed k touched n t) ≡ o
   unfolding ring_listed choose
   ring_end zero touched n h = rw nothing_written
   ring_end (suc k) touched n h = rw (eq-eqb n touched h, nothing_written)
 
-  pub ring-step :
-      (k touched n peer after : ℕ) (l : Link) (o₁ o₂ : Out)
-      → (k ≡ 0 → ⊥)
+  pub ring_more :
+      (k touched n : ℕ)
       → (n ≡ touched → ⊥)
-      → peer ≡ (at t n).sibling
-      → l ≡ (at t n).link
-      → o₁ ≡ write_all o (pair_listed (k - 1) n peer l t)
-      → after ≡ (at t peer).sibling
-      → o₂ ≡ write_all o₁ (ring_listed (k - 1) touched after t)
-      → o₂ ≡ write_all o (ring_listed k touched n t)
+      → write_all o (ring_listed (k + 1) touched n t)
+      ≡ write_all (write_all o (pair_listed k n (at t n).sibling (at t n).link t)) (ring_listed k touched (at t (at t n).sibling).sibling t)
   unfolding ring_listed choose
-  ring-step zero touched n peer after l o₁ o₂ h d e m p a q = absurd (h refl)
-  ring-step (suc k) touched n peer after l o₁ o₂ h d e m p a q =
-      let p' = rw (fewer k, e, m) at p in
-      let q' = rw (fewer k, a, e) at q in
-      q' ∙ rw (p', ne_eqb n touched d, write_all_append)
+  ring_more k touched n d = rw (add-one, ne_eqb n touched d, write_all_append)
 
--- what a walk has still left is at most what its call was given, and falls
-pub ring_falls : (l s n : ℕ) → 2 * l ≡ n → s ≤ l → (s ≡ 0 → ⊥) → 2 * (s - 1) < n
-ring_falls l zero n e p h = absurd (h refl)
-ring_falls l (suc s) n e p h = omega arith
+pub ruleset pairs = (pair_spent, pair_more)
 
-pub less_still : (s l : ℕ) → s ≤ l → s - 1 ≤ l
-less_still s l p = omega arith
+pub ruleset insides = (inside_yes, inside_no)
+
+pub ruleset levels = (levels_spent, levels_outer, levels_last, levels_more)
+
+pub ruleset rings = (ring_spent, ring_end, ring_more)

@@ -3,11 +3,12 @@ use mathlib.Core.Path.{◌≡◌}
 use mathlib.Core.List.{List}
 use Prim.Native.Nat.{ℕ, ◌*◌, ◌≤◌, ◌<◌}
 use borrow.Author.Tests.{lt-ltb, le-ltb}
+use Rattle.std.specs.Prelude.{Ok, Err}
 use Rattle.table.specs.Table.{Table}
 use Rattle.table.specs.Words.{table_of}
-use Rattle.refusal.specs.declared.Verdict.TheVariants as W
 use Rattle.refusal.specs.declared.Side.TheVariants.{Neither}
 use Rattle.refusal.specs.declared.Refusal.TheVariants.{NoListingRoom}
+use Rattle.refusal.specs.Refusal.{at_side}
 use Rattle.record.specs.declared.request.Request.TheVariants as Q
 use Rattle.record.specs.Writing.{out_of, write_all}
 use Rattle.rules.specs.Act.{world_of, run}
@@ -18,13 +19,13 @@ use Rattle.rules.proofs.DefectCounts.{defects_most}
 use Rattle.outcome.specs.Handled.{later_verdict}
 
 module _ (t : Table) (room : ℕ) where
-  pub list_no_room : (m k d : ℕ) → d ≡ present_defects t → m ≡ room → k ≡ 16 * d → m < k → later_verdict Q.List t room ≡ W.Refused NoListingRoom Neither
+  pub list_no_room : (m k d : ℕ) → d ≡ present_defects t → m ≡ room → k ≡ 16 * d → m < k → later_verdict Q.List t room ≡ Err (at_side NoListingRoom Neither)
   unfolding later_verdict
   list_no_room m k d f g n h =
       let h' : room < 16 * present_defects t = rw (g, n, f) at h in
       rw (lt-ltb room (16 * present_defects t) h')
 
-  pub list-room : (m k d : ℕ) → d ≡ present_defects t → m ≡ room → k ≡ 16 * d → k ≤ m → later_verdict Q.List t room ≡ W.Accepted
+  pub list-room : (m k d : ℕ) → d ≡ present_defects t → m ≡ room → k ≡ 16 * d → k ≤ m → later_verdict Q.List t room ≡ Ok tt
   unfolding later_verdict
   list-room m k d f g n h =
       let h' : 16 * present_defects t ≤ room = rw (g, n, f) at h in

@@ -1,17 +1,13 @@
--- Each function, one step at a time: its premises in the code's order, its own promise as the conclusion.
-use mathlib.Core.Path.{◌≡◌, sym, ◌∙◌}
+-- What the listing writes of one slot.
+use mathlib.Core.Path.{◌≡◌, ◌∙◌}
 use mathlib.Core.Bool.{true, false}
-use mathlib.Core.List.{[]}
 use Prim.Native.Nat.{ℕ, ◌≤◌, ◌<◌}
 use borrow.Author.Tests.{lt-ltb, le-ltb}
 use Rattle.slot.specs.declared.number.Node.{Node}
-use Rattle.slot.specs.Slot.{Link}
 use Rattle.table.specs.Table.{Table, at}
 use Rattle.table.specs.Nodes.{outer}
-use Rattle.table.specs.declared.place.Place.{Place}
-use Rattle.table.specs.declared.place.Place.TheVariants.{Paired, Virtual}
+use Rattle.table.specs.declared.place.Place.TheVariants.{Free, Paired, Virtual, Tree}
 use Rattle.table.specs.Place.{place}
-use Rattle.record.specs.declared.answer.VirtualPair.{VirtualPair}
 use Rattle.record.specs.declared.answer.Record.TheVariants as R
 use Rattle.record.specs.Records.{answer_bytes}
 use Rattle.record.specs.Writing.{Out, written, write_all}
@@ -22,44 +18,35 @@ use Rattle.request_listing.specs.Inside.{inside_listed}
 use Rattle.request_listing.proofs.PairsSteps.{nothing_written, one_written}
 
 module _ (t : Table) (o : Out) (n : ℕ) where
-  pub paired-smaller :
-      (peer : Node) (l : Link) (o₁ : Out)
-      → n < peer.0
-      → l ≡ (at t n).link
-      → o₁ ≡ write_all o (pair_listed 256 n peer.0 l t)
-      → o₁ ≡ write_all o (matched_listed (Paired peer) n (at t n) t)
+  pub paired_smaller : (peer : Node) → n < peer.0 → write_all o (matched_listed (Paired peer) n (at t n) t) ≡ write_all o (pair_listed 256 n peer.0 (at t n).link t)
   unfolding choose
-  paired-smaller peer l o₁ h e p = p ∙ rw (lt-ltb n peer.0 h, e)
+  paired_smaller peer h = rw (lt-ltb n peer.0 h)
 
-  pub paired_larger : (peer : Node) → peer.0 ≤ n → o ≡ write_all o (matched_listed (Paired peer) n (at t n) t)
+  pub paired_larger : (peer : Node) → peer.0 ≤ n → write_all o (matched_listed (Paired peer) n (at t n) t) ≡ o
   unfolding choose
   paired_larger peer h = rw (le-ltb n peer.0 h, nothing_written)
 
-  pub virtual-step :
-      (l : Link) (o₁ o₂ : Out) (r : VirtualPair)
-      → l ≡ (at t n).link
-      → o₁ ≡ write_all o (inside_listed 256 n l.touch t)
-      → r ≡ virtual_pair_of l
-      → o₂ ≡ written o₁ (answer_bytes (R.VirtualPair r))
-      → o₂ ≡ write_all o (matched_listed Virtual n (at t n) t)
+  pub virtual_all : write_all o (matched_listed Virtual n (at t n) t) ≡ written (write_all o (inside_listed 256 n (at t n).link.touch t)) (answer_bytes (R.VirtualPair (virtual_pair_of (at t n).link)))
   unfolding inside_listed
-  virtual-step l o₁ o₂ r e p s q =
-      let p' = rw e at p in
-      q ∙ rw (s, write_all_append, ← p', one_written, e)
+  virtual_all = rw (write_all_append, one_written)
 
-  pub slot_inner : outer t n ≡ false → o ≡ write_all o (slot_listed n t)
+  pub slot_inner : outer t n ≡ false → write_all o (slot_listed n t) ≡ o
   unfolding slot_listed choose
   slot_inner h = rw (h, nothing_written)
 
-  pub slot_step :
-      (x : Place) (o₁ : Out)
-      → outer t n ≡ true
-      → x ≡ place (at t n)
-      → o₁ ≡ write_all o (matched_listed x n (at t n) t)
-      → o₁ ≡ write_all o (slot_listed n t)
+  pub slot_outer : outer t n ≡ true → write_all o (slot_listed n t) ≡ write_all o (matched_listed (place (at t n)) n (at t n) t)
   unfolding slot_listed choose
-  slot_step x o₁ h e p = p ∙ rw (h, e)
+  slot_outer h = rw h
 
--- nothing is listed of a free node, nor of one in a tree
-pub unmatched : (o : Out) → o ≡ write_all o []
-unmatched o = sym (nothing_written o)
+  -- nothing is listed of a free node, nor of one in a tree
+  pub free_none : outer t n ≡ true → Free ≡ place (at t n) → write_all o (slot_listed n t) ≡ o
+  free_none h e = slot_outer h ∙ rw (← e, nothing_written)
+
+  pub tree_none : outer t n ≡ true → Tree ≡ place (at t n) → write_all o (slot_listed n t) ≡ o
+  tree_none h e = slot_outer h ∙ rw (← e, nothing_written)
+
+pub ruleset paired = (paired_smaller, paired_larger)
+
+pub ruleset virtually = (virtual_all)
+
+pub ruleset slot_lists = (slot_inner, slot_outer, free_none, tree_none)

@@ -5,75 +5,73 @@
 pub mod pairs;
 pub mod slots;
 
-ghost use Rattle.std.specs.Prelude.{◌≡◌, true, ◌-◌};
+ghost use Rattle.std.specs.Prelude.{◌≡◌, ◌-◌};
 ghost use Rattle.table.specs.Words.{table_of};
 ghost use Rattle.record.specs.declared.request.Request.TheVariants as Q;
 ghost use Rattle.record.specs.Writing.{out_of, write_all};
-ghost use Rattle.rules.specs.Sound.{sound};
 ghost use Rattle.rules.specs.Listing.{slots_listed};
-ghost use Rattle.rules.specs.Refusals.{defects_below, defect_at};
+ghost use Rattle.rules.specs.Refusals.{defects_below};
 ghost use Rattle.outcome.specs.Handled.{Handled};
 ghost use Rattle.request_listing.specs.Given.{given_listed};
+ghost use Rattle.request_listing.specs.Listed.{Listed};
 
-use refusal::{Answer, Refusal, Side};
+use record_fields::Output;
+use refusal::{Answer, Refusal};
 use slot::Node;
-use table::{Table, field};
+use sound_table::SoundView;
+use table::{Table, counts, field};
 
 // The slots from one up to another (not with it), ascending.
-fn list_slots(t: &Table, out: &mut [u8], pos: usize, from: u16, to: u16) -> usize
-    ensures { out_of out.new result ≡ write_all (out_of out.old pos) (slots_listed (to - from) from (table_of t.now)) }
+#[tactic(auto, using(crate::proofs::ListingSteps::slots))]
+fn list_slots(t: &Table, out: &mut Output, from: u16, to: u16)
+    ensures { Listed (slots_listed (to - from) from (table_of t.now)) out.old out.new }
 {
-    let mut p = pos;
-    let mut i = from;
-    while i < to {
-        p = crate::slots::list_slot(t, out, p, Node(i));
-        i += 1;
+    for i in from..to {
+        slots::list_slot(t, out, Node(i));
     }
-    p
 }
 
 // The defects given out, and the blossoms.
-fn list_given(t: &Table, out: &mut [u8], pos: usize) -> usize
-    ensures { out_of out.new result ≡ write_all (out_of out.old pos) (given_listed (table_of t.now)) }
+#[tactic(auto, using(crate::proofs::ListingSteps::given))]
+fn list_given(t: &Table, out: &mut Output)
+    ensures { Listed (given_listed (table_of t.now)) out.old out.new }
 {
-    let defects = table::counts::count_defects(t);
-    let begin = table::counts::begin(t);
-    let end = table::counts::blossom_end(t);
-    let p = list_slots(t, out, pos, 0, defects);
-    list_slots(t, out, p, begin, end)
+    list_slots(t, out, 0, counts::count_defects(t));
+    list_slots(t, out, counts::begin(t), counts::blossom_end(t));
 }
 
 // The present defects below a number, for which a listing asks room.
+#[tactic(auto, using(crate::proofs::Defects::defects))]
 fn defects_below(t: &Table, to: u16) -> usize
     ensures { result ≡ defects_below to (table_of t.now) }
 {
     let mut found: usize = 0;
-    let mut i: u16 = 0;
-    while i < to {
-        found += defect_at(t, Node(i));
-        i += 1;
+    for i in 0..to {
+        if field::is_present_defect(t, Node(i)) {
+            found += 1;
+        }
     }
     found
 }
 
-// 1 for a present defect, else 0.
-fn defect_at(t: &Table, n: Node) -> usize
-    ensures { result ≡ defect_at (table_of t.now) n.0 }
+// From a position of lent bytes on. Gives the position after what was written.
+fn list_at(t: &Table, bytes: &mut [u8], pos: usize) -> usize
+    ensures { out_of bytes.new result ≡ write_all (out_of bytes.old pos) (given_listed (table_of t.now)) }
 {
-    if field::is_present_defect(t, n) {
-        return 1;
-    }
-    0
+    let mut out = Output { bytes, pos };
+    list_given(t, &mut out);
+    out.pos
 }
 
 // Refused without room for the listing; from a position of the lent bytes on.
-pub fn list(t: &Table, out: &mut [u8], pos: usize) -> Answer
-    ensures { sound (table_of t.now) ≡ true → Handled Q.List pos t.now out.old result t.now out.new }
+// Kept: lent bytes with a position, as `Handled` speaks of them.
+pub fn list(t: SoundView, out: &mut [u8], pos: usize) -> Answer
+    ensures { Handled Q.List pos t.entry.words.now out.old result t.entry.words.now out.new }
 {
-    let defects = table::counts::count_defects(t);
-    let needed = outcome::ENTRY_ROOM * defects_below(t, defects);
+    let defects = counts::count_defects(t.words);
+    let needed = outcome::ENTRY_ROOM * defects_below(t.words, defects);
     if outcome::room(out, pos) < needed {
-        return Answer::Refused(Refusal::NoListingRoom, Side::Neither);
+        return Err(Refusal::NoListingRoom.into());
     }
-    Answer::Done(list_given(t, out, pos))
+    Ok(list_at(t.words, out, pos))
 }

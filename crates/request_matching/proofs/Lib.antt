@@ -1,4 +1,2 @@
-pub mod AlteringSteps
-pub mod PairingSteps
 pub mod MatchingSteps
 pub mod GrowthSteps

@@ -8,6 +8,7 @@ use Prim.Native.Nat.{ℕ, ◌≤◌, ◌<◌}
 use native.Mathlib.Omega.{arith}
 use lib.Dec.{T, T_not, eqb, eqb→eq}
 use lib.ListN.{length, set, length-set, length-replicate}
+use Rattle.std.specs.Prelude.{Option, Some, None}
 use Rattle.slot.specs.Number.{none}
 use Rattle.table.specs.Table.{Table, Full, at}
 use Rattle.table.specs.Nodes.{outer}
@@ -109,16 +110,15 @@ module _ (t : Table) (w : Whole t) where
 
     -- ---- what is told
 
-    is_told : (r : ℕ) → Told (upward t x) (upward t y) r → r ≡ meeting_or_none t x y
-    is_told r (inl h) =
-        let m = h.1 in
+    is_told : (r : Option ℕ) → Told (upward t x) (upward t y) r → r ≡ meeting_or_none t x y
+    is_told (Some r) m =
         let on-x : r ∈ upward t x = rw m.way_x (in_right m.below_x (r ∷ m.above) r (inl refl)) in
         let on-y : r ∈ upward t y = rw m.way_y (in_right m.below_y (r ∷ m.above) r (inl refl)) in
         let one = (ways.same_tree↔ t w.full w.core x y ox).1 (ways.shared_root t w.full w.core x y r ox oy on-x on-y) in
-        sym (pick_yes (same_tree t x y) (meeting t x y) none one ∙ meet_first (upward t x) (upward t y) r (ways.upward_once t w.full w.core x ox) m)
-    is_told r (inr h) =
-        let ends : root t x ≢ root t y = λ e. h.1 (sym (ways.root_is_end t w.full w.core x ox) ∙ e ∙ ways.root_is_end t w.full w.core y oy) in
-        h.0 ∙ sym (pick_no {A = ℕ} (same_tree t x y) (meeting t x y) none (λ s. ends ((ways.same_tree↔ t w.full w.core x y ox).0 s)))
+        sym (pick_yes (same_tree t x y) (Some (meeting t x y)) None one ∙ ap Some (meet_first (upward t x) (upward t y) r (ways.upward_once t w.full w.core x ox) m))
+    is_told None h =
+        let ends : root t x ≢ root t y = λ e. h (sym (ways.root_is_end t w.full w.core x ox) ∙ e ∙ ways.root_is_end t w.full w.core y oy) in
+        sym (pick_no {A = Option ℕ} (same_tree t x y) (Some (meeting t x y)) None (λ s. ends ((ways.same_tree↔ t w.full w.core x y ox).0 s)))
 
     pub met : met_in_turn t x y ≡ meeting_or_none t x y
     met = let p = stands x ox in let q = stands y oy in is_told (met_in_turn t x y) (told p.0 q.0 p.1 q.1 p.2 q.2)
@@ -172,13 +172,9 @@ module _ (t : Table) (x y : ℕ) (full : Full t) (ok : Checked t x y) where
   oy = true_test (outer t y) ok.2
 
   pub met_with_slot_lem : met_with_slot t x y ≡ meeting_or_none t x y
-  unfolding met_with_slot
   met_with_slot_lem = elim (test_case (lacks_blossom_slot t)) [
     | inl l ↦
         let apart : ¬ T (same_tree t x y) = λ s. T_not (lacks_blossom_slot t) (rw (ok.4 (test_true (same_tree t x y) s)) tt) l in
-        pick_yes (lacks_blossom_slot t) none (met_in_turn t x y) l ∙ sym (pick_no {A = ℕ} (same_tree t x y) (meeting t x y) none apart)
-    | inr n ↦ pick_no {A = ℕ} (lacks_blossom_slot t) none (met_in_turn t x y) (T_not (lacks_blossom_slot t) n) ∙ met t w x y ox oy ok.3
+        pick_yes (lacks_blossom_slot t) None (met_in_turn t x y) l ∙ sym (pick_no {A = Option ℕ} (same_tree t x y) (Some (meeting t x y)) None apart)
+    | inr n ↦ pick_no {A = Option ℕ} (lacks_blossom_slot t) None (met_in_turn t x y) (T_not (lacks_blossom_slot t) n) ∙ met t w x y ox oy ok.3
   ]
-
-  pub met_some : T (same_tree t x y) → meeting t x y ≢ none
-  met_some = meeting_some t w x y ox oy

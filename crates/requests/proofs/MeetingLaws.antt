@@ -7,6 +7,7 @@ use Prim.Native.Nat.{ℕ, zero, suc, ◌+◌, ◌<◌}
 use native.Mathlib.Omega.{arith}
 use lib.Dec.{T, T_not}
 use lib.ListN.{length, set, length-set}
+use Rattle.std.specs.Prelude.{Option, Some, None}
 use Rattle.slot.specs.Number.{none}
 use Rattle.table.specs.Table.{Table}
 use Rattle.table.specs.Marks.{marked}
@@ -46,14 +47,13 @@ meet_first xs ys m once h =
     ∙ first_at h.below_x m h.above ys (rw h.way_y (in_right h.below_y (m ∷ h.above) m (inl refl))) off
 
 -- what the climbs tell of two ways up: the node where they meet, or none where they end apart
-abbrev pub Told : List ℕ → List ℕ → ℕ → Type 0
-Told xs ys r = ((r ≢ none) × Meet xs ys r) ⊎ ((r ≡ none) × (end_of xs ≢ end_of ys))
+abbrev pub Told : List ℕ → List ℕ → Option ℕ → Type 0
+Told xs ys (Some m) = Meet xs ys m
+Told xs ys None = end_of xs ≢ end_of ys
 
-pub turned : (xs ys : List ℕ) (r : ℕ) → Told xs ys r → Told ys xs r
-turned xs ys r (inl h) =
-    let m = h.1 in
-    inl (h.0, record { below_x = m.below_y; below_y = m.below_x; above = m.above; way_x = m.way_y; way_y = m.way_x; apart = λ j p q. m.apart j q p })
-turned xs ys r (inr h) = inr (h.0, λ e. h.1 (sym e))
+pub turned : (xs ys : List ℕ) (r : Option ℕ) → Told xs ys r → Told ys xs r
+turned xs ys (Some r) m = record { below_x = m.below_y; below_y = m.below_x; above = m.above; way_x = m.way_y; way_y = m.way_x; apart = λ j p q. m.apart j q p }
+turned xs ys None h = λ e. h (sym e)
 
 -- nothing is on both
 abbrev pub Apart : List ℕ → List ℕ → Type 0
@@ -89,9 +89,6 @@ module _ (t : Table) where
 
     slot : p < 256
     slot = side.slots p on_way
-
-    some : p ≢ none
-    some e = omega (arith, slot)
 
     pub goes_on : is_top t a ≡ false
     goes_on = rw side.ahead.0 (lt-leb 256 p slot)
@@ -147,14 +144,14 @@ module _ (t : Table) where
         → Told xs ys (first_above k t test b)
     unfolding first_above
     alone zero z ys qs vs b y apart only l = absurd (omega arith)
-    alone (suc k) z ys qs [] b y apart only l = rw (stops z ys qs b y) (inr (refl, two_ends s z xs ys ps qs a b x y apart))
+    alone (suc k) z ys qs [] b y apart only l = rw (stops z ys qs b y) (two_ends s z xs ys ps qs a b x y apart)
     alone (suc k) z ys qs (p ∷ vs) b y apart only l =
         rw (goes_on z ys qs p vs b y, y.ahead.0)
         (elim (test_case (test p)) [
           | inl m ↦
               rw (test_true (test p) m)
               (elim (only p m) [
-                | inl i ↦ turned ys xs p (inl (some z ys qs p vs b y, meet_there z ys qs p vs b y s xs ps [] a x (λ j q r. apart j r q) i))
+                | inl i ↦ turned ys xs (Some p) (meet_there z ys qs p vs b y s xs ps [] a x (λ j q r. apart j r q) i)
                 | inr i ↦ absurd (new z ys qs p vs b y i)
               ])
           | inr n ↦
@@ -208,7 +205,7 @@ module _ (t : Table) where
             rw (test_true (marked ms p) m)
             (elim (h.only p m) [
               | inl i ↦ absurd (new s xs ps p us a x i)
-              | inr i ↦ inl (some s xs ps p us a x, meet_there s xs ps p us a x z ys qs vs b y apart i)
+              | inr i ↦ meet_there s xs ps p us a x z ys qs vs b y apart i
             ])
         | inr n ↦
             let off = T_not (marked ms p) n in

@@ -1,104 +1,79 @@
--- The climbs one step at a time, as the code's loops take them.
-use mathlib.Core.Path.{◌≡◌, refl, sym, ◌∙◌}
+-- The climbs one step at a time, as the code's loops take them: after i steps 256 - i of one end are left, or 512 - i of both.
+use mathlib.Core.Path.{◌≡◌}
 use mathlib.Core.Bool.{Bool, true, false}
 use mathlib.Core.List.{List}
-use Prim.Native.Nat.{ℕ, zero, suc, ◌+◌, ◌-◌, ◌≤◌, ◌<◌}
-use native.Mathlib.Omega.{arith}
+use Prim.Native.Nat.{ℕ, ◌+◌, ◌-◌, ◌≤◌, ◌<◌}
+use native.Mathlib.Numerals.{add-one}
 use lib.Dec.{eqb}
 use lib.ListN.{set}
 use borrow.Author.Tests.{le-leb, lt-leb}
-use Rattle.lists.proofs.Budget.{fewer}
-use Rattle.slot.specs.Number.{none}
-use Rattle.table.specs.Table.{Table}
+use Rattle.std.specs.Prelude.{Some, None}
+use Rattle.lists.proofs.Budget.{one_left, none_left}
+use Rattle.table.specs.Table.{Table, at}
 use Rattle.table.specs.Marks.{unmarked, marked}
-use Rattle.rules.specs.Slots.{up}
 use Rattle.requests.specs.Meeting.{first_above, in_turn, met_in_turn}
 
 -- ---- one end alone
 
-pub above_spent : (t : Table) (test : ℕ → Bool) (n k : ℕ) → k ≡ 0 → none ≡ first_above k t test n
-unfolding first_above
-above_spent t test n k z = rw z
-
-module _ (t : Table) (test : ℕ → Bool) (n p : ℕ) (e : p ≡ up t n) where
-  pub above_top : (k : ℕ) → (k ≡ 0 → ⊥) → 256 ≤ p → none ≡ first_above k t test n
+module _ (t : Table) (test : ℕ → Bool) (n i : ℕ) where
+  pub above_end : 256 ≤ i → first_above (256 - i) t test n ≡ None
   unfolding first_above
-  above_top zero h l = absurd (h refl)
-  above_top (suc k) h l = rw (← e, le-leb 256 p l)
+  above_end h = rw (none_left i 256 h)
 
-  pub above_found : (k : ℕ) → (k ≡ 0 → ⊥) → p < 256 → test p ≡ true → p ≡ first_above k t test n
-  unfolding first_above
-  above_found zero h l q = absurd (h refl)
-  above_found (suc k) h l q = rw (← e, lt-leb 256 p l, q)
+  module _ (h : i < 256) where
+    pub above_top : 256 ≤ (at t n).parent → first_above (256 - i) t test n ≡ None
+    unfolding first_above
+    above_top l = rw (one_left i 256 h, le-leb 256 (at t n).parent l)
 
-  pub above_more : (k : ℕ) → (k ≡ 0 → ⊥) → p < 256 → test p ≡ false → first_above (k - 1) t test p ≡ first_above k t test n
-  unfolding first_above
-  above_more zero h l q = absurd (h refl)
-  above_more (suc k) h l q = rw (fewer k, ← e, lt-leb 256 p l, q)
+    pub above_found : (at t n).parent < 256 → test (at t n).parent ≡ true → first_above (256 - i) t test n ≡ Some (at t n).parent
+    unfolding first_above
+    above_found l q = rw (one_left i 256 h, lt-leb 256 (at t n).parent l, q)
+
+    pub above_up : (at t n).parent < 256 → test (at t n).parent ≡ false → first_above (256 - i) t test n ≡ first_above (256 - (i + 1)) t test (at t n).parent
+    unfolding first_above
+    above_up l q = rw (one_left i 256 h, lt-leb 256 (at t n).parent l, q, add-one)
 
 -- ---- both in turn
 
--- a round is a turn of each end
-two_turns : (k : ℕ) → (k ≡ 0 → ⊥) → k + k ≡ suc (suc ((k - 1) + (k - 1)))
-two_turns k h = omega (arith, h)
-
-module _ (t : Table) (ms : List ℕ) (a b p : ℕ) (e : p ≡ up t a) where
-  step_top : (k r : ℕ) → 256 ≤ p → r ≡ first_above 256 t (marked ms) b → r ≡ in_turn (suc k) t ms a b
+module _ (t : Table) (ms : List ℕ) (a b i : ℕ) where
+  pub turn_end : 512 ≤ i → in_turn (512 - i) t ms a b ≡ None
   unfolding in_turn
-  step_top k r l q = rw (← e, le-leb 256 p l) q
+  turn_end h = rw (none_left i 512 h)
 
-  step_met : (k : ℕ) → p < 256 → marked ms p ≡ true → p ≡ in_turn (suc k) t ms a b
-  unfolding in_turn
-  step_met k l m = rw (← e, lt-leb 256 p l, m)
+  module _ (h : i < 512) where
+    pub turn_top : 256 ≤ (at t a).parent → in_turn (512 - i) t ms a b ≡ first_above 256 t (marked ms) b
+    unfolding in_turn
+    turn_top l = rw (one_left i 512 h, le-leb 256 (at t a).parent l)
 
-  step_more : (k : ℕ) → p < 256 → marked ms p ≡ false → in_turn k t (set ms p 1) b p ≡ in_turn (suc k) t ms a b
-  unfolding in_turn
-  step_more k l m = rw (← e, lt-leb 256 p l, m)
+    pub turn_met : (at t a).parent < 256 → marked ms (at t a).parent ≡ true → in_turn (512 - i) t ms a b ≡ Some (at t a).parent
+    unfolding in_turn
+    turn_met l m = rw (one_left i 512 h, lt-leb 256 (at t a).parent l, m)
 
-pub round_spent : (t : Table) (ms : List ℕ) (a b k : ℕ) → k ≡ 0 → none ≡ in_turn (k + k) t ms a b
-unfolding in_turn
-round_spent t ms a b k z = rw z
-
-module _ (t : Table) (ms : List ℕ) (a b k : ℕ) (h : k ≡ 0 → ⊥) (p : ℕ) (e : p ≡ up t a) where
-  pub first_top : (r : ℕ) → 256 ≤ p → r ≡ first_above 256 t (marked ms) b → r ≡ in_turn (k + k) t ms a b
-  first_top r l q = rw (two_turns k h) (step_top t ms a b p e _ r l q)
-
-  module _ (l : p < 256) (m : Bool) (f : m ≡ marked ms p) where
-    pub first_met : m ≡ true → p ≡ in_turn (k + k) t ms a b
-    first_met u = rw (two_turns k h) (step_met t ms a b p e _ l (sym f ∙ u))
-
-    module _ (u : m ≡ false) (ns : List ℕ) (g : ns ≡ set ms p 1) (q : ℕ) (i : q ≡ up t b) where
-      second : in_turn (suc ((k - 1) + (k - 1))) t ns b p ≡ in_turn (k + k) t ms a b
-      second = rw (two_turns k h, g) (step_more t ms a b p e _ l (sym f ∙ u))
-
-      pub second_top : (r : ℕ) → 256 ≤ q → r ≡ first_above 256 t (marked ns) p → r ≡ in_turn (k + k) t ms a b
-      second_top r v w = step_top t ns b p q i _ r v w ∙ second
-
-      module _ (v : q < 256) (o : Bool) (j : o ≡ marked ns q) where
-        pub second_met : o ≡ true → q ≡ in_turn (k + k) t ms a b
-        second_met w = step_met t ns b p q i _ v (sym j ∙ w) ∙ second
-
-        pub round_more : (os : List ℕ) → o ≡ false → os ≡ set ns q 1 → in_turn ((k - 1) + (k - 1)) t os p q ≡ in_turn (k + k) t ms a b
-        round_more os w x = rw x (step_more t ns b p q i _ v (sym j ∙ w)) ∙ second
+    pub turn_more :
+        (at t a).parent < 256
+        → marked ms (at t a).parent ≡ false
+        → in_turn (512 - i) t ms a b ≡ in_turn (512 - (i + 1)) t (set ms (at t a).parent 1) b (at t a).parent
+    unfolding in_turn
+    turn_more l m = rw (one_left i 512 h, lt-leb 256 (at t a).parent l, m, add-one)
 
 -- ---- the whole
 
-module _ (t : Table) (a b p : ℕ) (e : p ≡ up t a) where
-  pub met_first_root : (r : ℕ) → 256 ≤ p → r ≡ first_above 256 t (eqb a) b → r ≡ met_in_turn t a b
+module _ (t : Table) (a b : ℕ) where
+  pub met_first_root : 256 ≤ (at t a).parent → met_in_turn t a b ≡ first_above 256 t (eqb a) b
   unfolding met_in_turn
-  met_first_root r l q = rw (← e, le-leb 256 p l) q
+  met_first_root l = rw (le-leb 256 (at t a).parent l)
 
-  module _ (l : p < 256) (q : ℕ) (f : q ≡ up t b) where
-    pub met_second_root : (r : ℕ) → 256 ≤ q → r ≡ first_above 256 t (eqb b) a → r ≡ met_in_turn t a b
+  module _ (l : (at t a).parent < 256) where
+    pub met_second_root : 256 ≤ (at t b).parent → met_in_turn t a b ≡ first_above 256 t (eqb b) a
     unfolding met_in_turn
-    met_second_root r m g = rw (← e, ← f, lt-leb 256 p l, le-leb 256 q m) g
+    met_second_root m = rw (lt-leb 256 (at t a).parent l, le-leb 256 (at t b).parent m)
 
-    pub met-climbed :
-        (r : ℕ) (ms ns : List ℕ)
-        → q < 256
-        → ms ≡ set unmarked a 1
-        → ns ≡ set ms b 1
-        → r ≡ in_turn 512 t ns a b
-        → r ≡ met_in_turn t a b
+    pub met_climbed : (at t b).parent < 256 → met_in_turn t a b ≡ in_turn 512 t (set (set unmarked a 1) b 1) a b
     unfolding met_in_turn
-    met-climbed r ms ns m g h i = rw (← e, ← f, lt-leb 256 p l, lt-leb 256 q m) (i ∙ rw (h, g))
+    met_climbed m = rw (lt-leb 256 (at t a).parent l, lt-leb 256 (at t b).parent m)
+
+pub ruleset steps_up = (above_top, above_found, above_up, above_end)
+
+pub ruleset turns = (turn_top, turn_met, turn_more, turn_end)
+
+pub ruleset starts = (met_first_root, met_second_root, met_climbed)

@@ -1,20 +1,21 @@
--- Each function, one step at a time: its premises in the code's order, its own promise as the conclusion.
-use mathlib.Core.Path.{◌≡◌, ◌∙◌}
-use Rattle.table.specs.Table.{Table, at}
-use Rattle.table.specs.Place.{place}
-use Rattle.record.specs.declared.request.VirtualConflict.{VirtualConflict}
-use Rattle.record.specs.Writing.{Out}
+-- Who leaves a tree at a virtual conflict, and who is as it was.
+use mathlib.Core.Path.{◌≡◌, refl}
+use Prim.Native.Nat.{ℕ}
+use Rattle.table.specs.declared.place.Place.{Place}
+use Rattle.table.specs.declared.place.Place.TheVariants.{Free, Paired, Virtual, Tree}
 use Rattle.rules.specs.Act.{World, run}
-use Rattle.rules.specs.Trees.{loaded}
-use Rattle.rules.specs.Matching.{temporary_match_virtual}
-use Rattle.rules.specs.Conflict.{freed, virtual_conflict}
-use Rattle.rules.proofs.Runs.{world, runs}
+use Rattle.rules.specs.Conflict.{freed}
+use Rattle.rules.specs.Matching.{augment_whole_tree}
+use Rattle.rules.proofs.Runs.{run-skip}
 
-pub virtual-step :
-    (t t₁ : Table) (o : Out) (w₁ w₂ : World) (c : VirtualConflict)
-    → t₁ ≡ loaded c.node.0 t
-    → w₁ ≡ run (world t₁ o) (freed (place (at t₁ c.node.0)) c.node.0)
-    → w₂ ≡ run w₁ (temporary_match_virtual c.node.0 c.touch.0 c.vertex.0 c.virtual_vertex.0)
-    → w₂ ≡ run (world t o) (virtual_conflict c)
-unfolding virtual_conflict
-virtual-step t t₁ o w₁ w₂ c p q r = r ∙ rw (q, p) (simp runs)
+module _ (w : World) (n : ℕ) (p : Place) where
+  pub in_tree : p ≡ Tree → run w (freed p n) ≡ run w (augment_whole_tree n)
+  in_tree e = rw e
+
+pub in_none : (w : World) (n : ℕ) (p : Place) → (p ≡ Tree → ⊥) → run w (freed p n) ≡ w
+in_none w n Free d = run-skip w
+in_none w n (Paired q) d = run-skip w
+in_none w n Virtual d = run-skip w
+in_none w n Tree d = absurd (d refl)
+
+pub ruleset frees = (in_tree, in_none)

@@ -1,7 +1,6 @@
 -- What the rows of the conflict table may rely on, and the row of two tree nodes as the code does it.
-use Rattle.std.specs.Prelude.{ℕ, ◌+◌, ◌≡◌, true, false, ◌≢◌}
+use Rattle.std.specs.Prelude.{ℕ, ◌+◌, ◌≡◌, true, false, ◌≢◌, Option, None}
 use Rattle.lists.specs.Choice.{pick}
-use Rattle.slot.specs.Number.{none}
 use Rattle.slot.specs.Slot.{Link}
 use Rattle.table.specs.Table.{Table}
 use Rattle.table.specs.Nodes.{outer}
@@ -22,8 +21,8 @@ abbrev pub CheckedOnceLoaded : Conflict → Table → Type 0
 CheckedOnceLoaded c t = Checked (loaded c.node_2.0 (loaded c.node_1.0 t)) c.node_1.0 c.node_2.0
 
 -- where no slot is left there are two trees, and nothing is climbed
-unfoldable pub met_with_slot : Table → ℕ → ℕ → ℕ
-met_with_slot t x y = pick (lacks_blossom_slot t) none (met_in_turn t x y)
+abbrev pub met_with_slot : Table → ℕ → ℕ → Option ℕ
+met_with_slot t x y = pick (lacks_blossom_slot t) None (met_in_turn t x y)
 
 -- the blossom of two nodes that meet at m
 unfoldable pub blossom_at : ℕ → ℕ → ℕ → Link → Act

@@ -7,17 +7,16 @@ ghost use Rattle.rules.specs.Sound.{sound};
 ghost use Rattle.outcome.specs.Handled.{Handled};
 
 use record::Conflict;
-use refusal::{Answer, Refusal, Side, Verdict};
+use refusal::{Answer, Refusal};
 use table::Table;
 
+// Kept: the table is no `SoundTable`, since docs/ARCHITECTURE.md names `requests::conflicts::conflict`: it may ask no more of its callers.
 pub fn conflict(t: &mut Table, out: &mut [u8], pos: usize, c: Conflict) -> Answer
     ensures { sound (table_of t.old) ≡ true → Handled (Q.Conflict c) pos t.old out.old result t.new out.new }
 {
     if outcome::room(out, pos) < outcome::COMMAND_ROOM {
-        return Answer::Refused(Refusal::NoCommandRoom, Side::Neither);
+        return Err(Refusal::NoCommandRoom.into());
     }
-    match request_judging::judge_conflict(t, c) {
-        Verdict::Accepted => Answer::Done(crate::resolving::resolve_conflict(t, out, pos, c)),
-        Verdict::Refused(refusal, side) => Answer::Refused(refusal, side),
-    }
+    request_judging::judge_conflict(t, c)?;
+    Ok(crate::resolving::resolve_conflict(t, out, pos, c))
 }

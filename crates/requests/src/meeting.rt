@@ -1,110 +1,78 @@
 // Where the ways up from two nodes meet. Two ends take a step each by turns and leave a mark at every node; the one that finds a mark
 // there already is at the meeting node. Where both come to their roots first, there are two trees. A number past the last slot is taken
 // for the end of a way up: on a sound table none is the only such number. Each climb is bounded, so it ends on any table.
-ghost use Rattle.std.specs.Prelude.{◌≡◌, eqb};
+ghost use Rattle.std.specs.Prelude.{◌≡◌, ℕ, Bool, eqb};
 ghost use Rattle.table.specs.Words.{table_of};
 ghost use Rattle.table.specs.Marks.{marked};
-ghost use Rattle.requests.specs.Meeting.{first_above, in_turn, met_in_turn};
+ghost use Rattle.requests.specs.Meeting.{found, IsTest, first_above, in_turn, met_in_turn};
 
 use slot::Node;
-use slot::number::NO_NODE;
-use table::{Table, field, marks};
+use std::mem;
+use table::{Marks, Table, field};
 
-// This root, if the way up from n comes to it; else none.
-fn climb_to_root(t: &Table, root: Node, n: Node) -> Node
-    ensures { result.0 ≡ first_above 256 (table_of t.now) (eqb root.0) n.0 }
+// The first node above n of which the test holds; None if the way up ends before.
+#[tactic(auto, using(crate::proofs::MeetingSteps::steps_up))]
+fn climb_to<F: Fn(Node) -> bool>(t: &Table, n: Node, test: F) -> Option<Node>
+    requires { F.IsAlwaysCallable test }
+    ensures { (holds : ℕ → Bool) → IsTest (F.post test) holds → found result ≡ first_above 256 (table_of t.now) holds n.0 }
 {
     let mut here = n;
-    let mut steps_left: usize = 256;
-    let found = loop {
-        if steps_left == 0 {
-            break Node(NO_NODE);
-        }
+    for _ in 0..256usize {
         let above = field::parent(t, here);
         if 256 <= above.0 {
-            break Node(NO_NODE);
+            return None;
         }
-        if root.0 == above.0 {
-            break above;
-        }
-        here = above;
-        steps_left -= 1;
-    };
-    found
-}
-
-// The first marked node above n; none if the way up ends before.
-fn climb_to_mark(t: &Table, passed: &[u8], n: Node) -> Node
-    ensures { result.0 ≡ first_above 256 (table_of t.now) (marked passed.now) n.0 }
-{
-    let mut here = n;
-    let mut steps_left: usize = 256;
-    let found = loop {
-        if steps_left == 0 {
-            break Node(NO_NODE);
-        }
-        let above = field::parent(t, here);
-        if 256 <= above.0 {
-            break Node(NO_NODE);
-        }
-        if marks::is_marked(passed, above) {
-            break above;
+        if test(above) {
+            return Some(above);
         }
         here = above;
-        steps_left -= 1;
-    };
-    found
+    }
+    None
 }
 
-// Both ends stand on marked nodes.
-fn climb_in_turn(t: &Table, passed: &mut [u8], a: Node, b: Node) -> Node
-    ensures { result.0 ≡ in_turn 512 (table_of t.now) passed.old a.0 b.0 }
+// Both ends stand on marked nodes; the one that waits takes the next turn.
+#[tactic(auto, using(crate::proofs::MeetingSteps::turns))]
+fn climb_in_turn(t: &Table, passed: &mut Marks, a: Node, b: Node) -> Option<Node>
+    ensures { found result ≡ in_turn 512 (table_of t.now) passed.old a.0 b.0 }
 {
-    let mut on_a = a;
-    let mut on_b = b;
-    let mut rounds_left: usize = 256;
+    let mut here = a;
+    let mut waiting = b;
+    let mut turns: usize = 0;
+    // Kept: 01 asks for a loop that climbs both paths and yields the meeting node by break.
     let meeting = loop {
-        if rounds_left == 0 {
-            break Node(NO_NODE);
+        if 512 <= turns {
+            break None;
         }
-        let above_a = field::parent(t, on_a);
-        if 256 <= above_a.0 {
-            break climb_to_mark(t, passed, on_b);
+        let higher = field::parent(t, here);
+        if 256 <= higher.0 {
+            break climb_to(t, waiting, |n| passed.is_marked(n));
         }
-        if marks::is_marked(passed, above_a) {
-            break above_a;
+        if passed.is_marked(higher) {
+            break Some(higher);
         }
-        marks::mark(passed, above_a);
-        let above_b = field::parent(t, on_b);
-        if 256 <= above_b.0 {
-            break climb_to_mark(t, passed, above_a);
-        }
-        if marks::is_marked(passed, above_b) {
-            break above_b;
-        }
-        marks::mark(passed, above_b);
-        on_a = above_a;
-        on_b = above_b;
-        rounds_left -= 1;
+        passed.mark(higher);
+        here = mem::replace(&mut waiting, higher);
+        turns += 1;
     };
     meeting
 }
 
 // 01: "The meeting node is the first node that both upward paths share." None where there are two trees. So it is for two different
 // outer nodes of a sound table (`MeetingNode`). A root passes no node but itself, so where one of the two is a root nothing is marked.
-pub fn find_lowest_common_ancestor(t: &Table, a: Node, b: Node) -> Node
-    ensures { result.0 ≡ met_in_turn (table_of t.now) a.0 b.0 }
+#[tactic(auto, using(crate::proofs::MeetingSteps::starts))]
+pub fn find_lowest_common_ancestor(t: &Table, a: Node, b: Node) -> Option<Node>
+    ensures { found result ≡ met_in_turn (table_of t.now) a.0 b.0 }
 {
     let above_a = field::parent(t, a);
     if 256 <= above_a.0 {
-        return climb_to_root(t, a, b);
+        return climb_to(t, b, |n| n == a);
     }
     let above_b = field::parent(t, b);
     if 256 <= above_b.0 {
-        return climb_to_root(t, b, a);
+        return climb_to(t, a, |n| n == b);
     }
-    let mut passed: [u8; 256] = [0; 256];
-    marks::mark(&mut passed, a);
-    marks::mark(&mut passed, b);
+    let mut passed = Marks::none();
+    passed.mark(a);
+    passed.mark(b);
     climb_in_turn(t, &mut passed, a, b)
 }

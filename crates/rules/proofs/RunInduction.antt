@@ -6,12 +6,14 @@ use native.Mathlib.Omega.{arith}
 use lib.Dec.{eqb, ltb}
 use lib.ListN.{length}
 use borrow.Author.Tests.{ltb-false}
+use Rattle.std.specs.Prelude.{Ok, Err}
+use Rattle.record.specs.Reading.{Reading}
 use Rattle.lists.specs.Choice.{pick}
 use Rattle.record.specs.declared.request.Request.{Request}
-use Rattle.record.specs.declared.request.Reading.{Reading}
-use Rattle.record.specs.declared.request.Reading.TheVariants as G
 use Rattle.record.specs.Reading as reading
-use Rattle.rules.specs.Run.{Stop, tape_empty, allowance_used, output_full, bad_record, Progress, Ended, stopped, advanced, go_on, room, run_from, run_room}
+use Rattle.rules.specs.declared.stop.Stop.{Stop}
+use Rattle.rules.specs.declared.stop.Stop.TheVariants as S
+use Rattle.rules.specs.Run.{Progress, Ended, stopped, advanced, go_on, room, run_from, run_room}
 
 -- what may be said of a run by how many records it handles, where it stands and where it ends
 abbrev pub OfRuns : Type 1
@@ -25,7 +27,7 @@ AtAStop Holds = (s : Stop) (p : Progress) → Holds 0 p (stopped s p)
 abbrev pub OverARecord : OfRuns → Type 0
 OverARecord Holds =
     (n : ℕ) (p : Progress) (q : Request) (size : ℕ) (e : Ended)
-    → reading.read p.rest ≡ G.Request q size
+    → reading.read p.rest ≡ Ok (q, size)
     → run_room ≤ room p.world
     → Holds n (advanced q size p) e
     → Holds (suc n) p e
@@ -52,18 +54,18 @@ module _ (Holds : OfRuns) (at-a-stop : AtAStop Holds) (over-a-record : OverAReco
       → (r : Reading)
       → reading.read p.rest ≡ r
       → Counted p (go_on more r p)
-  gone-on more ih p fits (G.Request q size) e =
+  gone-on more ih p fits (Ok (q, size)) e =
       let c = ih (advanced q size p) in
       record { more = suc c.more; handled = omega (arith, c.handled); holds = over-a-record c.more p q size (more (advanced q size p)) e fits c.holds }
-  gone-on more ih p fits (G.Refused n) e = at_once bad_record p
+  gone-on more ih p fits (Err n) e = at_once S.BadRecord p
 
   counted : (k : ℕ) (p : Progress) → Counted p (run_from k p)
   unfolding run_from
-  counted zero p = either p (eqb (length p.rest) 0) (stopped tape_empty p) (stopped allowance_used p) (at_once tape_empty p) (λ _. at_once allowance_used p)
+  counted zero p = either p (eqb (length p.rest) 0) (stopped S.TapeEmpty p) (stopped S.AllowanceUsed p) (at_once S.TapeEmpty p) (λ _. at_once S.AllowanceUsed p)
   counted (suc k) p =
       let after = go_on (run_from k) (reading.read p.rest) p in
-      either p (eqb (length p.rest) 0) (stopped tape_empty p) (pick (ltb (room p.world) run_room) (stopped output_full p) after) (at_once tape_empty p)
-      (λ _. either p (ltb (room p.world) run_room) (stopped output_full p) after (at_once output_full p)
+      either p (eqb (length p.rest) 0) (stopped S.TapeEmpty p) (pick (ltb (room p.world) run_room) (stopped S.OutputFull p) after) (at_once S.TapeEmpty p)
+      (λ _. either p (ltb (room p.world) run_room) (stopped S.OutputFull p) after (at_once S.OutputFull p)
       (λ t. gone-on (run_from k) (counted k) p (ltb-false (room p.world) run_room t) (reading.read p.rest) refl))
 
   pub run_induction : (allowance : ℕ) (p : Progress) → let e = run_from allowance p in Holds (e.progress.handled - p.handled) p e

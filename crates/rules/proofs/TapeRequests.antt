@@ -3,20 +3,20 @@ use mathlib.Core.Path.{◌≡◌, refl, ap, ◌∙◌}
 use mathlib.Core.List.{List, [], ◌∷◌, ◌++◌}
 use Prim.Native.Nat.{ℕ, zero, suc}
 use lib.ListN.{length, drop}
+use Rattle.std.specs.Prelude.{Ok}
 use Rattle.record.specs.declared.request.Request.{Request}
 use Rattle.record.specs.declared.request.Request.TheVariants as Q
-use Rattle.record.specs.declared.request.Reading.TheVariants as G
-use Rattle.record.specs.Kinds.{layout_of}
+use Rattle.record.specs.Kinds.{kind_of}
 use Rattle.record.specs.Records.{expansion_from, request_bytes}
 use Rattle.record.specs.Reading as reading
 use Rattle.rules.specs.Run.{Between, requests_of, behind_of}
 use Rattle.rules.specs.Script.{join}
 
-pub first_request : (n : ℕ) (tape : List ℕ) (q : Request) (size : ℕ) → reading.read tape ≡ G.Request q size → requests_of (suc n) tape ≡ q ∷ requests_of n (drop size tape)
+pub first_request : (n : ℕ) (tape : List ℕ) (q : Request) (size : ℕ) → reading.read tape ≡ Ok (q, size) → requests_of (suc n) tape ≡ q ∷ requests_of n (drop size tape)
 unfolding requests_of
 first_request n tape q size e = rw e
 
-pub behind_first : (n : ℕ) (tape : List ℕ) (q : Request) (size : ℕ) → reading.read tape ≡ G.Request q size → behind_of (suc n) tape ≡ behind_of n (drop size tape)
+pub behind_first : (n : ℕ) (tape : List ℕ) (q : Request) (size : ℕ) → reading.read tape ≡ Ok (q, size) → behind_of (suc n) tape ≡ behind_of n (drop size tape)
 unfolding behind_of
 behind_first n tape q size e = rw e
 
@@ -31,11 +31,11 @@ tape : List ℕ
 tape = request_bytes (join 0 1) ++ request_bytes Q.Reset ++ 7 ∷ []
 
 read_from_a_tape : (requests_of 1 tape ≡ join 0 1 ∷ []) × (requests_of 2 tape ≡ join 0 1 ∷ Q.Reset ∷ []) × (requests_of 3 tape ≡ join 0 1 ∷ Q.Reset ∷ [])
-unfolding tape requests_of request_bytes layout_of reading.read
+unfolding tape requests_of request_bytes kind_of reading.read
 read_from_a_tape = (refl, refl, refl)
 
 left_on_a_tape : (behind_of 1 tape ≡ request_bytes Q.Reset ++ 7 ∷ []) × (behind_of 2 tape ≡ 7 ∷ []) × (behind_of 3 tape ≡ 7 ∷ [])
-unfolding tape behind_of request_bytes layout_of reading.read
+unfolding tape behind_of request_bytes kind_of reading.read
 left_on_a_tape = (refl, refl, refl)
 
 -- an expansion, padded, and behind its padding a reset
@@ -43,5 +43,5 @@ padded : List ℕ
 padded = 6 ∷ 0 ∷ 3 ∷ 0 ∷ 128 ∷ 0 ∷ 0 ∷ 0 ∷ 2 ∷ 0 ∷ 4 ∷ 0 ∷ []
 
 read_behind_padding : (requests_of 2 padded ≡ Q.Expansion (expansion_from (128 ∷ [])) ∷ Q.Reset ∷ []) × (behind_of 1 padded ≡ request_bytes Q.Reset) × (behind_of 2 padded ≡ [])
-unfolding padded requests_of behind_of request_bytes layout_of reading.read
+unfolding padded requests_of behind_of request_bytes kind_of reading.read
 read_behind_padding = (refl, refl, refl)

@@ -1,5 +1,5 @@
 -- What each request answers: refused, and nothing changes; or accepted, and its rule is done.
-use Rattle.std.specs.Prelude.{ℕ, Bool, true, false, List}
+use Rattle.std.specs.Prelude.{ℕ, Bool, true, false, List, Ok, Err}
 use Rattle.table.specs.Table.{Table}
 use Rattle.table.specs.Making.{emptied}
 use Rattle.record.specs.declared.request.Request.{Request}
@@ -7,9 +7,7 @@ use Rattle.record.specs.declared.request.Request.TheVariants as Q
 use Rattle.record.specs.declared.answer.Record.{Record}
 use Rattle.record.specs.declared.answer.Record.TheVariants as R
 use Rattle.refusal.specs.declared.Side.TheVariants.{Neither}
-use Rattle.refusal.specs.declared.Verdict.{Verdict}
-use Rattle.refusal.specs.declared.Verdict.TheVariants.{Accepted, Refused}
-use Rattle.refusal.specs.Refusal.{number_of, side_number}
+use Rattle.refusal.specs.Refusal.{Verdict, number_of, side_number}
 use Rattle.rules.specs.Act.{Act, Did, skip, change}
 use Rattle.rules.specs.Conflict.{conflict, virtual_conflict}
 use Rattle.rules.specs.Expansion.{expansion}
@@ -40,28 +38,28 @@ verdict r t room = first_of (checks_of r t room)
 
 -- "Each refusal returns its number and the table as given, loads nothing, writes nothing."
 abbrev pub act_by : Verdict → Request → Act
-act_by Accepted r = act_of r
-act_by (Refused n s) r = skip
+act_by (Ok u) r = act_of r
+act_by (Err e) r = skip
 
 -- whether a request is accepted: no refusal applies
 abbrev pub is_accepted : Verdict → Bool
-is_accepted Accepted = true
-is_accepted (Refused n s) = false
+is_accepted (Ok u) = true
+is_accepted (Err e) = false
 
 -- 0, or the refusal's number
 abbrev pub verdict_number : Verdict → ℕ
-verdict_number Accepted = 0
-verdict_number (Refused n s) = number_of n
+verdict_number (Ok u) = 0
+verdict_number (Err e) = number_of e.refusal
 
 -- 0, or the number of the refusal's side
 abbrev pub verdict_side : Verdict → ℕ
-verdict_side Accepted = 0
-verdict_side (Refused n s) = side_number s
+verdict_side (Ok u) = 0
+verdict_side (Err e) = side_number e.side
 
 -- "19 end (0 or the refusal; [..])", and the side: "0 after any other number or success"
 abbrev pub end_record : Verdict → Record
-end_record Accepted = R.End 0 Neither
-end_record (Refused n s) = R.End (number_of n) s
+end_record (Ok u) = R.End 0 Neither
+end_record (Err e) = R.End (number_of e.refusal) e.side
 
 -- what a request does on a table with so much room for what it writes
 unfoldable pub answered : Request → ℕ → Table → Did

@@ -17,3 +17,4 @@ pub mod Run
 pub mod Commands
 pub mod Script
 pub mod Scenarios
+pub mod Doing

@@ -1,5 +1,5 @@
 -- "Numbers given back": which refusals each call has, in which order, when each applies, and at which side (ticket 1 of 02).
-use Rattle.std.specs.Prelude.{ℕ, zero, suc, ◌+◌, ◌*◌, Bool, not, ◌&&◌, ◌||◌, List, [], ◌∷◌, eqb, leb, ltb}
+use Rattle.std.specs.Prelude.{ℕ, zero, suc, ◌+◌, ◌*◌, Bool, not, ◌&&◌, ◌||◌, List, [], ◌∷◌, eqb, leb, ltb, Ok, Err}
 use Rattle.lists.specs.Choice.{pick}
 use Rattle.slot.specs.Number.{no_vertex}
 use Rattle.slot.specs.State.{is_outer, is_present}
@@ -9,8 +9,7 @@ use Rattle.refusal.specs.declared.Refusal.{Refusal}
 use Rattle.refusal.specs.declared.Refusal.TheVariants.{NotSound, NoSuchNode, NotOuter, SameNode, TouchOutside, NotGrowing, NoBlossomSlot, NoCommandRoom, NoListingRoom, NotExpandable}
 use Rattle.refusal.specs.declared.Side.{Side}
 use Rattle.refusal.specs.declared.Side.TheVariants.{Neither, First, Second}
-use Rattle.refusal.specs.declared.Verdict.{Verdict}
-use Rattle.refusal.specs.declared.Verdict.TheVariants.{Accepted, Refused}
+use Rattle.refusal.specs.Refusal.{at_side, Verdict}
 use Rattle.record.specs.declared.request.Conflict.{Conflict}
 use Rattle.record.specs.declared.request.VirtualConflict.{VirtualConflict}
 use Rattle.record.specs.declared.request.Expansion.{Expansion}
@@ -38,8 +37,8 @@ r when b = record { applies = b; refusal = r; side = Neither }
 
 -- "The first that applies is given."
 abbrev pub first_of : List Check → Verdict
-first_of [] = Accepted
-first_of (c ∷ cs) = pick c.applies (Refused c.refusal c.side) (first_of cs)
+first_of [] = Ok tt
+first_of (c ∷ cs) = pick c.applies (Err (at_side c.refusal c.side)) (first_of cs)
 
 -- ---- the tests
 

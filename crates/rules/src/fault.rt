@@ -4,8 +4,7 @@ ghost use Rattle.rules.specs.Fault.{rule_number};
 
 use slot::Node;
 
-// In 01's order.
-#[derive(Clone, Copy)]
+#[derive(Clone, Copy, PartialEq, Eq)]
 pub enum Rule {
     S1,
     S2,
@@ -17,25 +16,40 @@ pub enum Rule {
     S8,
 }
 
-#[derive(Clone, Copy)]
-pub enum Fault {
-    // The table is sound.
-    Nowhere,
-    // This rule fails at this slot.
-    At(Rule, Node),
+impl Rule {
+    // In 01's order.
+    pub const ALL: [Rule; 8] = [
+        Rule::S1,
+        Rule::S2,
+        Rule::S3,
+        Rule::S4,
+        Rule::S5,
+        Rule::S6,
+        Rule::S7,
+        Rule::S8,
+    ];
 }
 
-pub fn number(rule: Rule) -> u16
-    ensures { result ≡ rule_number rule }
-{
-    match rule {
-        Rule::S1 => 1,
-        Rule::S2 => 2,
-        Rule::S3 => 3,
-        Rule::S4 => 4,
-        Rule::S5 => 5,
-        Rule::S6 => 6,
-        Rule::S7 => 7,
-        Rule::S8 => 8,
+impl From<Rule> for u16 {
+    ghost from_gives = { λ rule number. number ≡ rule_number rule };
+
+    fn from(rule: Rule) -> u16 {
+        match rule {
+            Rule::S1 => 1,
+            Rule::S2 => 2,
+            Rule::S3 => 3,
+            Rule::S4 => 4,
+            Rule::S5 => 5,
+            Rule::S6 => 6,
+            Rule::S7 => 7,
+            Rule::S8 => 8,
+        }
     }
+}
+
+// This rule fails at this slot. A sound table has no fault.
+#[derive(Clone, Copy, PartialEq, Eq)]
+pub struct Fault {
+    pub rule: Rule,
+    pub slot: Node,
 }

@@ -1,3 +1,4 @@
 pub mod Number
 pub mod State
 pub mod Slot
+pub mod Shown

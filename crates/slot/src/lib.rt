@@ -3,6 +3,7 @@
 
 pub mod link;
 pub mod number;
+mod shown;
 pub mod state;
 pub mod value;
 

@@ -6,7 +6,7 @@ use crate::link::Link;
 use crate::number::Node;
 use crate::state::State;
 
-#[derive(Clone, Copy)]
+#[derive(Clone, Copy, PartialEq, Eq)]
 pub struct Slot {
     pub state: State,
     pub parent: Node,
@@ -17,29 +17,27 @@ pub struct Slot {
     pub link: Link,
 }
 
-pub fn empty_slot() -> Slot
-    ensures { slot_of result ≡ empty_slot }
-{
-    Slot {
-        state: State::Empty,
-        parent: Node(crate::number::NO_NODE),
-        first_child: Node(crate::number::NO_NODE),
-        sibling: Node(crate::number::NO_NODE),
-        ring: Node(crate::number::NO_NODE),
-        link: crate::link::no_link(),
+impl Slot {
+    // 01: "an empty slot stores none throughout".
+    pub fn empty() -> Slot
+        ensures { slot_of result ≡ empty_slot }
+    {
+        Slot {
+            state: State::Empty,
+            parent: Node::NONE,
+            first_child: Node::NONE,
+            sibling: Node::NONE,
+            ring: Node::NONE,
+            link: Link::none(),
+        }
     }
-}
 
-// 01: "A new node is Grow with all else none."
-pub fn new_node() -> Slot
-    ensures { slot_of result ≡ new_node }
-{
-    Slot {
-        state: State::Grow,
-        parent: Node(crate::number::NO_NODE),
-        first_child: Node(crate::number::NO_NODE),
-        sibling: Node(crate::number::NO_NODE),
-        ring: Node(crate::number::NO_NODE),
-        link: crate::link::no_link(),
+    // 01: "A new node is Grow with all else none."
+    pub fn new_node() -> Slot
+        ensures { slot_of result ≡ new_node }
+    {
+        let mut s = Slot::empty();
+        s.state = State::Grow;
+        s
     }
 }

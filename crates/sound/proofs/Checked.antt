@@ -245,9 +245,6 @@ module _ (ws : List ℕ) where
       unfolding paths_hold
       paths_all = rw (lists_whole, ways_whole listed.seen, ways_right tab listed.seen)
 
-      up_below : (n : ℕ) → present tab n ≡ true → n < 256
-      up_below n p = present_below tab full n (true_test (present tab n) p)
-
       some_parent : (j : ℕ) → T (present tab (up tab j)) → is_none (up tab j) ≡ false
       some_parent j p = eqb_no (up tab j) none (λ z. let q : T (present tab none) = rw z at p in absurd (rw (at_none tab full) at q))
 
@@ -356,9 +353,6 @@ module _ (ws : List ℕ) (x : Bool) (p : x ≡ sizes_hold (table_of ws)) where
   sizes_no h = sizes_fail ws (sym p ∙ h)
 
   module _ (f : x ≡ true) (defects begin blossoms : ℕ) (u : defects ≡ (table_of ws).defects) (v : begin ≡ (table_of ws).begin) (w : blossoms ≡ (table_of ws).blossoms) where
-    pub end_fits : begin + blossoms ≤ 256
-    end_fits = rw (v, w) (end_below ws (sym p ∙ f))
-
     module _ (y : Bool) (q : y ≡ numbered_hold (table_of ws) defects begin (begin + blossoms)) where
       pub each_no : y ≡ false → false ≡ sound (table_of ws)
       each_no h = each_fail ws (sym p ∙ f) (rw (u, v, w) at (sym q ∙ h))

@@ -1,5 +1,3 @@
-pub mod SlotsSteps
-pub mod Passes
 pub mod SoundSteps
 pub mod Whole
 pub mod SlotKinds

@@ -12,53 +12,43 @@ ghost use Rattle.rules.specs.Sound.{sound};
 ghost use Rattle.sound_slots.specs.Links.{is_held, is_numbered};
 ghost use Rattle.sound.specs.Given.{each_holds, numbered_hold, paths_hold};
 
+use crate::slots::{all_vacant, slots_hold};
+use sound_slots::stretches::Stretches;
 use sound_walks::{children, numbers, ways};
-use table::Table;
+use table::numbers::SlotNumbers;
+use table::{Marks, Table, counts};
 
 // Each slot by itself (S1 to S4, S7 and S8), touches by numbers.
+// Kept: defects, begin and end are three numbers, as the definitions in specs/Given take them; a struct would be taken apart in each clause.
 #[tactic(auto, unfolding(crate::specs::Given::each_holds))]
-fn each_holds<'a>(
-    t: &Table,
-    lo: &'a [u16],
-    hi: &'a [u16],
-    defects: u16,
-    begin: u16,
-    end: u16,
-) -> bool
-    ensures { result ≡ each_holds (table_of t.now) (is_held (table_of t.now) lo.now hi.now) (is_numbered lo.now) defects begin end }
+fn each_holds(t: &Table, inside: &Stretches, defects: u16, begin: u16, end: u16) -> bool
+    ensures { result ≡ each_holds (table_of t.now) (is_held (table_of t.now) inside.now.lo inside.now.hi) (is_numbered inside.now.lo) defects begin end }
 {
-    if !crate::slots::slots_hold(t, lo, hi, 0, defects) {
-        return false;
-    }
-    if !crate::slots::all_vacant(t, defects, begin) {
-        return false;
-    }
-    if !crate::slots::slots_hold(t, lo, hi, begin, end) {
-        return false;
-    }
-    crate::slots::all_vacant(t, end, 256)
+    slots_hold(t, inside, 0, defects)
+        && all_vacant(t, defects, begin)
+        && slots_hold(t, inside, begin, end)
+        && all_vacant(t, end, 256)
 }
 
 // Rings, whose insides get numbers (S6), then each slot by itself.
+// Kept: the three numbers, as in each_holds.
 #[tactic(auto, unfolding(crate::specs::Given::numbered_hold, crate::specs::Given::numbers_from))]
 fn numbered_hold(t: &Table, defects: u16, begin: u16, end: u16) -> bool
     ensures { result ≡ numbered_hold (table_of t.now) defects begin end }
 {
-    let mut lo: [u16; 256] = [0; 256];
-    let mut hi: [u16; 256] = [0; 256];
-    if numbers::number_outers(t, &mut lo, &mut hi, begin, end) == 0 {
-        return false;
-    }
-    each_holds(t, &lo, &hi, defects, begin, end)
+    let mut inside = Stretches::none();
+    numbers::number_outers(t, &mut inside, begin, end).is_some()
+        && each_holds(t, &inside, defects, begin, end)
 }
 
 // Child lists and ways up (S5, S7).
+// Kept: the three numbers, as in each_holds.
 #[tactic(auto, unfolding(crate::specs::Given::paths_hold, crate::specs::Given::given_pass))]
 fn paths_hold(t: &Table, defects: u16, begin: u16, end: u16) -> bool
     ensures { result ≡ paths_hold (table_of t.now) defects begin end }
 {
-    let mut listed: [u8; 256] = [0; 256];
-    let mut deep: [u16; 256] = [0; 256];
+    let mut listed = Marks::none();
+    let mut deep = SlotNumbers::filled(0);
     if !children::lists_hold(t, &mut listed, 0, defects) {
         return false;
     }
@@ -74,15 +64,11 @@ fn paths_hold(t: &Table, defects: u16, begin: u16, end: u16) -> bool
 pub fn is_sound(t: &Table) -> bool
     ensures { result ≡ sound (table_of t.now) }
 {
-    if !crate::slots::sizes_hold(t) {
+    if !slots::sizes_hold(t) {
         return false;
     }
-    let defects = table::counts::count_defects(t);
-    let begin = table::counts::begin(t);
-    let blossoms = table::counts::count_blossoms(t);
-    let end = begin + blossoms;
-    if !numbered_hold(t, defects, begin, end) {
-        return false;
-    }
-    paths_hold(t, defects, begin, end)
+    let defects = counts::count_defects(t);
+    let begin = counts::begin(t);
+    let end = begin + counts::count_blossoms(t);
+    numbered_hold(t, defects, begin, end) && paths_hold(t, defects, begin, end)
 }

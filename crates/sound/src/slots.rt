@@ -9,7 +9,7 @@ ghost use Rattle.sound.specs.OneSlot.{slot_holds, is_vacant};
 use slot::{Node, State};
 use sound_slots::links::ring_placed;
 use sound_slots::states::{grow_holds, inner_holds, shrink_holds, stay_holds};
-use sound_slots::truth::both;
+use sound_slots::stretches::Stretches;
 use sound_slots::value;
 use table::Table;
 
@@ -27,29 +27,24 @@ pub fn sizes_hold(t: &Table) -> bool
 {
     let begin = table::counts::begin(t);
     let defects = table::counts::count_defects(t);
-    let end = end_of(t);
-    let within = both(1 <= begin, begin <= 256);
-    let below = both(within, defects <= begin);
-    both(below, end <= 256)
+    1 <= begin && begin <= 256 && defects <= begin && end_of(t) <= 256
 }
 
 // All that is asked of a slot that is given out, with the numbers of insides.
 #[tactic(auto, unfolding(crate::specs::OneSlot::slot_holds))]
-pub fn slot_holds<'a>(t: &Table, lo: &'a [u16], hi: &'a [u16], n: Node) -> bool
-    ensures { result ≡ slot_holds (table_of t.now) (is_held (table_of t.now) lo.now hi.now) (is_numbered lo.now) n.0 }
+pub fn slot_holds(t: &Table, inside: &Stretches, n: Node) -> bool
+    ensures { result ≡ slot_holds (table_of t.now) (is_held (table_of t.now) inside.now.lo inside.now.hi) (is_numbered inside.now.lo) n.0 }
 {
     let s = table::get(t, n);
-    let state = s.state;
-    let ring = s.ring;
-    if !ring_placed(t, n, ring) {
+    if !ring_placed(t, n, s.ring) {
         return false;
     }
-    match state {
+    match s.state {
         State::Empty => value::is_bare(s),
-        State::Inner => inner_holds(t, lo, hi, n, s),
-        State::Stay => stay_holds(t, lo, hi, n, s),
-        State::Grow => grow_holds(t, lo, hi, n, s),
-        State::Shrink => shrink_holds(t, lo, hi, n, s),
+        State::Inner => inner_holds(t, inside, n, s),
+        State::Stay => stay_holds(t, inside, n, s),
+        State::Grow => grow_holds(t, inside, n, s),
+        State::Shrink => shrink_holds(t, inside, n, s),
         State::Damaged => false,
     }
 }
@@ -60,40 +55,18 @@ fn is_vacant(t: &Table, n: Node) -> bool
     ensures { result ≡ is_vacant (table_of t.now) n.0 }
 {
     let s = table::get(t, n);
-    let state = s.state;
-    match state {
-        State::Empty => value::is_bare(s),
-        State::Inner => false,
-        State::Stay => false,
-        State::Grow => false,
-        State::Shrink => false,
-        State::Damaged => false,
-    }
+    s.state == State::Empty && value::is_bare(s)
 }
 
 // The slots from one number to before another.
-pub fn slots_hold<'a>(t: &Table, lo: &'a [u16], hi: &'a [u16], from: u16, to: u16) -> bool
-    ensures { result ≡ all_from (slot_holds (table_of t.now) (is_held (table_of t.now) lo.now hi.now) (is_numbered lo.now)) (to - from) from }
+pub fn slots_hold(t: &Table, inside: &Stretches, from: u16, to: u16) -> bool
+    ensures { result ≡ all_from (slot_holds (table_of t.now) (is_held (table_of t.now) inside.now.lo inside.now.hi) (is_numbered inside.now.lo)) (to - from) from }
 {
-    let mut i = from;
-    while i < to {
-        if !slot_holds(t, lo, hi, Node(i)) {
-            return false;
-        }
-        i += 1;
-    }
-    true
+    (from..to).all(|i| slot_holds(t, inside, Node(i)))
 }
 
 pub fn all_vacant(t: &Table, from: u16, to: u16) -> bool
     ensures { result ≡ all_from (is_vacant (table_of t.now)) (to - from) from }
 {
-    let mut i = from;
-    while i < to {
-        if !is_vacant(t, Node(i)) {
-            return false;
-        }
-        i += 1;
-    }
-    true
+    (from..to).all(|i| is_vacant(t, Node(i)))
 }

@@ -3,5 +3,5 @@
 
 pub mod links;
 pub mod states;
-pub mod truth;
+pub mod stretches;
 pub mod value;

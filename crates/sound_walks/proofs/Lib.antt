@@ -1,8 +1,8 @@
 pub mod SoundMarksSteps
 pub mod Truth
 pub mod Walks
+pub mod Passes
 pub mod Sweeps
-pub mod SoundChildrenSteps
 pub mod SoundChildrenPaths
 pub mod DepthSteps
 pub mod WaysEnd

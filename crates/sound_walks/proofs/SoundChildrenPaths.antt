@@ -22,7 +22,7 @@ module _ (t : Table) (bare : (i : ℕ) → outer t i ≡ false → (at t i).firs
 
   pub list_skips : (i : ℕ) (l : List ℕ) → outer t i ≡ false → list_step t i l ≡ judged_of true l
   unfolding list_step
-  list_skips i l o = ap (λ (w : Walked). list_ended w) (sym (marking_end (next t) (is_outer_child t i) (at t i).first_child 0 l 256 (bare i o)))
+  list_skips i l o = ap (λ (w : Walked). list_ended w) (sym (marking_end (next t) (is_outer_child t i) (at t i).first_child 0 l 256 (sym (eq-eqb _ _ (bare i o)))))
 
   list_walks : (i : ℕ) (l : List ℕ) → outer t i ≡ true → list_step t i l ≡ list_ended (marking 256 (next t) (is_outer_child t i) (at t i).first_child 0 l)
   unfolding list_step

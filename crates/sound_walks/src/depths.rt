@@ -1,80 +1,74 @@
 // Ways up (S7). A node's depth is the number of steps from it along parents to none, and 0 stands for one not known yet.
-ghost use Rattle.std.specs.Prelude.{◌≡◌};
+ghost use Rattle.std.specs.Prelude.{◌≡◌, ◌<◌, ◌≤◌, MatchOption};
 ghost use Rattle.table.specs.Words.{table_of};
 ghost use Rattle.sound_walks.specs.Marks.{judged_of};
 ghost use Rattle.sound_walks.specs.Depths.{measured, recorded, depth_step};
 
 use slot::Node;
-use table::Table;
-use table::numbers::{number_of, set_number};
+use table::numbers::SlotNumbers;
+use table::{Table, field};
 
-// The depth of n, at most 257 steps to a node whose depth is known. 65,535 if there are more.
-fn measure(t: &Table, deep: &[u16], n: Node) -> u32
-    ensures { result ≡ measured (table_of t.now) deep.now 257 n.0 0 }
+// The depth of n, by way of the first node whose depth is known. None where it is more than 257.
+fn measure(t: &Table, deep: &SlotNumbers, n: Node) -> Option<u16>
+    ensures { MatchOption result (257 < measured (table_of t.now) deep.now 257 n.0 0) (λ depth. (depth ≡ measured (table_of t.now) deep.now 257 n.0 0) × (depth ≤ 257)) }
 {
     let mut here = n;
-    let mut left: u32 = 257;
-    let mut count: u32 = 0;
-    loop {
-        if here.0 == slot::number::NO_NODE {
-            return count;
+    for count in 0..258 {
+        if here.is_none() {
+            return Some(count);
         }
-        let known = number_of(deep, here);
+        let known = deep.get(here);
         if known != 0 {
-            return count + (known as u32);
+            return if known <= 257 - count {
+                Some(count + known)
+            } else {
+                None
+            };
         }
-        if left == 0 {
-            return 65535;
-        }
-        here = table::field::parent(t, here);
-        left -= 1;
-        count += 1;
+        here = field::parent(t, here);
     }
+    None
 }
 
 // The depths on the way up from n, which has this one, to a node whose depth is known.
-fn note_way(t: &Table, deep: &mut [u16], n: Node, depth: u16)
+fn note_way(t: &Table, deep: &mut SlotNumbers, n: Node, depth: u16)
     ensures { deep.new ≡ recorded (table_of t.now) depth n.0 deep.old }
 {
     let mut here = n;
-    let mut left = depth;
-    while 0 < left {
-        let known = number_of(deep, here);
-        if known != 0 {
+    for step in 0..depth {
+        if deep.get(here) != 0 {
             return;
         }
-        set_number(deep, here, left);
-        here = table::field::parent(t, here);
-        left -= 1;
+        deep.set(here, depth - step);
+        here = field::parent(t, here);
     }
 }
 
 // Whether the way up from n comes to an end. A node without a parent is at the top, and its depth need not be remembered; most
 // often the parent's depth is known.
 #[tactic(auto, unfolding(crate::specs::Depths::depth_step))]
-pub fn depth_step(t: &Table, deep: &mut [u16], n: Node) -> bool
+pub fn depth_step(t: &Table, deep: &mut SlotNumbers, n: Node) -> bool
     ensures { judged_of result deep.new ≡ depth_step (table_of t.now) n.0 deep.old }
 {
-    let above = table::field::parent(t, n);
-    if above.0 == slot::number::NO_NODE {
+    let above = field::parent(t, n);
+    if above.is_none() {
         return true;
     }
-    let own = number_of(deep, n);
+    let own = deep.get(n);
     if own != 0 {
         return own <= 257;
     }
-    let known = number_of(deep, above);
+    let known = deep.get(above);
     if known != 0 {
         if 256 < known {
             return false;
         }
-        set_number(deep, n, known + 1);
+        deep.set(n, known + 1);
         return true;
     }
-    let depth = measure(t, deep, n);
-    if 257 < depth {
+    let Some(depth) = measure(t, deep, n) else {
         return false;
-    }
-    note_way(t, deep, n, depth as u16);
+    };
+    note_way(t, deep, n, depth);
     true
 }

@@ -5,5 +5,6 @@
 
 pub mod children;
 pub mod depths;
+pub mod marking;
 pub mod numbers;
 pub mod ways;

@@ -1,4 +1,4 @@
--- One past the last blossom slot given out: by the way that the code took, and whether a slot is left.
+-- One past the last blossom slot given out, and whether a slot is left.
 use mathlib.Core.Path.{◌≡◌, ◌∙◌}
 use Prim.Native.Nat.{ℕ, ◌+◌, ◌≤◌, ◌<◌}
 use native.Mathlib.Omega.{arith}
@@ -7,15 +7,6 @@ use lib.Dec.{eqb, leb}
 use borrow.Author.Tests.{le-leb, lt-leb, eq-eqb, ne_eqb}
 use Rattle.table.specs.Table.{Table}
 use Rattle.table.specs.Counts.{blossom_end}
-
-module _ (t : Table) (begin blossoms : ℕ) (e : begin ≡ t.begin) (f : blossoms ≡ t.blossoms) where
-  pub end_at_last : 256 ≤ begin + blossoms → 256 ≡ blossom_end t
-  unfolding blossom_end
-  end_at_last h = let h' : 256 ≤ t.begin + t.blossoms = rw (e, f) at h in rw (le-leb 256 (t.begin + t.blossoms) h')
-
-  pub end_before : begin + blossoms < 256 → begin + blossoms ≡ blossom_end t
-  unfolding blossom_end
-  end_before h = let h' : t.begin + t.blossoms < 256 = rw (e, f) at h in rw (e, f, lt-leb 256 (t.begin + t.blossoms) h')
 
 -- 256 exactly where no slot is left
 module _ (t : Table) where

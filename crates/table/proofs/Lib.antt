@@ -4,9 +4,6 @@ pub mod TableLaws
 pub mod Determined
 pub mod WordsOfCounts
 pub mod BlossomEnd
-pub mod ByState
 pub mod Climbs
 pub mod NodesExamples
-pub mod PresentDefects
-pub mod PlaceSteps
 pub mod MarkLaws

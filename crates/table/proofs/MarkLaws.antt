@@ -1,13 +1,13 @@
 -- What is marked: nothing at first, nothing past the end, and one more after each mark.
-use mathlib.Core.Path.{◌≡◌, sym}
+use mathlib.Core.Path.{◌≡◌, refl, sym, ap, ◌∙◌}
 use mathlib.Core.Logic.{◌⊎◌, inl, inr}
-use mathlib.Core.List.{List}
-use mathlib.Core.Bool.{false, ◌||◌, or-false, or-true}
+use mathlib.Core.List.{List, map}
+use mathlib.Core.Bool.{Bool, true, false, cond, ◌||◌, or-false, or-true}
 use Prim.Native.Nat.{ℕ, ◌≤◌, ◌<◌}
 use native.Mathlib.Decide.{ℕ_discrete, dec_lt}
 use native.Mathlib.Omega.{arith}
 use lib.Dec.{T, eqb}
-use lib.ListN.{length, get_or, set, length-replicate, get_or-replicate, get_or-eq_default}
+use lib.ListN.{length, get_or, get_or-map, set, length-replicate, get_or-replicate, get_or-eq_default}
 use lib.Seq.{get_or-set_same, get_or-set_other}
 use borrow.Author.Tests.{eq-eqb, ne_eqb}
 use Rattle.table.specs.Marks.{marked, unmarked}
@@ -65,3 +65,16 @@ pub mark_none : (j : ℕ) → ¬ T (marked unmarked j)
 mark_none j m =
     let l : j < 256 = omega (arith, mark_within unmarked j m, length-replicate {A = ℕ} 256 0) in
     rw (marked-none j l) at m
+
+-- ---- marks as the code keeps them: a mark is seen as the number 1
+
+is_one : (b : Bool) → eqb (cond b 1 0) 1 ≡ b
+is_one true = refl
+is_one false = refl
+
+pub marked_view : (p : List Bool) (n : ℕ) → marked (map (λ b. cond b 1 0) p) n ≡ get_or p n false
+unfolding marked
+marked_view p n = ap (λ (m : ℕ). eqb m 1) (get_or-map (λ (b : Bool). cond b 1 0) p n false) ∙ is_one (get_or p n false)
+
+pub no_mark_past : (p : List Bool) (n : ℕ) → length p ≤ n → marked (map (λ b. cond b 1 0) p) n ≡ false
+no_mark_past p n h = marked_view p n ∙ get_or-eq_default p false h

@@ -11,7 +11,10 @@ use Rattle.slot.specs.State.{state_of}
 use Rattle.slot.specs.Slot.{Slot, empty_slot}
 use Rattle.table.specs.Table.{at, put}
 use Rattle.table.specs.Words.{table_of, slot_from, link_from}
-use Rattle.table.specs.Fields.{parent_replaced, first_child_replaced, sibling_replaced}
+use Rattle.table.specs.Fields.{parent_replaced, first_child_replaced, sibling_replaced, pointer_replaced}
+use Rattle.table.specs.Layout.{pointer_place}
+use Rattle.table.specs.declared.storing.Pointer.{Pointer}
+use Rattle.table.specs.declared.storing.Pointer.TheVariants.{Parent, FirstChild, Sibling}
 use Rattle.table.proofs.WordsOfSlots.{slot-cong, slots_length, at_words, tables_agree}
 
 -- ---- the table after a word of slot n
@@ -103,17 +106,22 @@ module _ (ws : List ℕ) (b v : ℕ) where
 -- ---- both
 
 module _ (ws : List ℕ) (n v : ℕ) (e : length ws ≡ 2819) (h : n < 256) where
-  pub put_parent : table_of (set ws (n * 11 + 1) v) ≡ put (table_of ws) n (parent_replaced v (at (table_of ws) n))
+  put_parent : table_of (set ws (n * 11 + 1) v) ≡ put (table_of ws) n (parent_replaced v (at (table_of ws) n))
   put_parent =
       put_word ws n 1 v h (omega arith) _
       (parent_word ws (n * 11) v (omega arith) ∙ ap (λ (s : Slot). parent_replaced v s) (at_words ws n h))
 
-  pub put_first_child : table_of (set ws (n * 11 + 2) v) ≡ put (table_of ws) n (first_child_replaced v (at (table_of ws) n))
+  put_first_child : table_of (set ws (n * 11 + 2) v) ≡ put (table_of ws) n (first_child_replaced v (at (table_of ws) n))
   put_first_child =
       put_word ws n 2 v h (omega arith) _
       (first_child_word ws (n * 11) v (omega arith) ∙ ap (λ (s : Slot). first_child_replaced v s) (at_words ws n h))
 
-  pub put_sibling : table_of (set ws (n * 11 + 3) v) ≡ put (table_of ws) n (sibling_replaced v (at (table_of ws) n))
+  put_sibling : table_of (set ws (n * 11 + 3) v) ≡ put (table_of ws) n (sibling_replaced v (at (table_of ws) n))
   put_sibling =
       put_word ws n 3 v h (omega arith) _
       (sibling_word ws (n * 11) v (omega arith) ∙ ap (λ (s : Slot). sibling_replaced v s) (at_words ws n h))
+
+  pub put_pointer : (p : Pointer) → table_of (set ws (n * 11 + pointer_place p) v) ≡ put (table_of ws) n (pointer_replaced p v (at (table_of ws) n))
+  put_pointer Parent = put_parent
+  put_pointer FirstChild = put_first_child
+  put_pointer Sibling = put_sibling

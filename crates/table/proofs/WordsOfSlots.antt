@@ -1,7 +1,7 @@
 -- The words behind a slot: read after a store, there and elsewhere.
-use mathlib.Core.Path.{◌≡◌, refl, sym, ◌∙◌}
-use mathlib.Core.List.{List, [], ◌∷◌}
-use Prim.Native.Nat.{ℕ, ◌+◌, ◌*◌, ◌%◌, ◌/◌, ◌≤◌, ◌<◌}
+use mathlib.Core.Path.{◌≡◌, sym, ◌∙◌}
+use mathlib.Core.List.{List}
+use Prim.Native.Nat.{ℕ, ◌+◌, ◌*◌, ◌≤◌, ◌<◌}
 use native.Mathlib.Nat.{zero-add}
 use native.Mathlib.Decide.{ℕ_discrete}
 use native.Mathlib.Omega.{arith}
@@ -10,13 +10,13 @@ use lib.Seq.{get_or-set_same, get_or-set_other, set_out, ext_get_or}
 use Rattle.lists.specs.Count.{count}
 use Rattle.lists.specs.Stores.{stores}
 use Rattle.lists.proofs.Count.{length-count, get_or-count}
-use Rattle.lists.proofs.Stores.{stores-out, stores-in, stores-join}
+use Rattle.lists.proofs.Stores.{stores-out, stores-in}
 use Rattle.slot.specs.Number.{vertex_from}
-use Rattle.slot.specs.State.{state_of, mark_of}
-use Rattle.slot.specs.Slot.{Link, Slot, empty_slot}
+use Rattle.slot.specs.State.{state_of}
+use Rattle.slot.specs.Slot.{Slot, empty_slot}
 use Rattle.slot.proofs.Laws.{state_of_mark_of, vertex_from_words}
 use Rattle.table.specs.Table.{Table, at, put}
-use Rattle.table.specs.Words.{table_of, slot_from, first_words, slot_words, link_words}
+use Rattle.table.specs.Words.{table_of, slot_from, slot_words}
 
 -- a slot is read from its eleven words alone
 pub slot-cong :
@@ -61,7 +61,7 @@ at_past ws n h = sym (get_or-eq_default (table_of ws).slots empty_slot (rw slots
 
 -- storing
 
-pub put_past : (ws : List ℕ) (n : ℕ) (s : Slot) → 256 ≤ n → table_of ws ≡ put (table_of ws) n s
+pub put_past : (ws : List ℕ) (n : ℕ) (s : Slot) → 256 ≤ n → put (table_of ws) n s ≡ table_of ws
 unfolding put
 put_past ws n s h = rw (set_out (table_of ws).slots n s (rw slots_length h))
 
@@ -124,21 +124,3 @@ module _ (ws : List ℕ) (n : ℕ) (s : Slot) (e : length ws ≡ 2819) (h : n < 
       (elsewhere 2816 (λ k q u. omega arith))
       (elsewhere 2817 (λ k q u. omega arith))
       (elsewhere 2818 (λ k q u. omega arith))
-
--- the words of a link, stored one by one
-pub write-link-step :
-    (ws : List ℕ) (b : ℕ) (l : Link) (a c d e : ℕ)
-    → a ≡ l.through % 65536
-    → c ≡ l.through / 65536
-    → d ≡ l.peer_through % 65536
-    → e ≡ l.peer_through / 65536
-    → stores ws b 0 (l.touch ∷ l.peer_touch ∷ a ∷ c ∷ d ∷ e ∷ []) ≡ stores ws b 0 (link_words l)
-write-link-step ws b l a c d e p q r s = rw (p, q, r, s)
-
--- the words of a slot, stored as its first five, the mark m first, and then its link's six
-pub write-slot-step :
-    (ws us : List ℕ) (b m : ℕ) (s : Slot)
-    → m ≡ mark_of s.state
-    → us ≡ stores (stores ws b 0 (m ∷ s.parent ∷ s.first_child ∷ s.sibling ∷ s.ring ∷ [])) (b + 5) 0 (link_words s.link)
-    → us ≡ stores ws b 0 (slot_words s)
-write-slot-step ws us b m s p q = q ∙ rw (p, stores-join (first_words s) (link_words s.link) ws b 5 refl)

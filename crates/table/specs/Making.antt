@@ -1,9 +1,8 @@
 -- Making a table, and emptying one.
 use Rattle.std.specs.Prelude.{◌≡◌, List, Bool, ◌&&◌, ℕ, replicate, leb}
 use Rattle.lists.specs.Choice.{pick}
-use Rattle.refusal.specs.declared.Answer.{Answer}
 use Rattle.refusal.specs.declared.Refusal.TheVariants.{BadBegin}
-use Rattle.refusal.specs.Refusal.{number_of, answer_number, answer_side, answer_written}
+use Rattle.refusal.specs.Refusal.{Answer, number_of, answer_number, answer_side, answer_written}
 use Rattle.slot.specs.Slot.{empty_slot}
 use Rattle.table.specs.Table.{Table}
 use Rattle.table.specs.Words.{table_of}

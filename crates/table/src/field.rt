@@ -53,50 +53,23 @@ pub fn is_blossom(t: &Table, n: Node) -> bool
 pub fn has_node(t: &Table, n: Node) -> bool
     ensures { result ≡ present (table_of t.now) n.0 }
 {
-    let state = crate::get(t, n).state;
-    match state {
-        State::Empty => false,
-        State::Inner => true,
-        State::Stay => true,
-        State::Grow => true,
-        State::Shrink => true,
-        State::Damaged => true,
-    }
+    state(t, n).is_present()
 }
 
 pub fn is_present_defect(t: &Table, n: Node) -> bool
     ensures { result ≡ is_present_defect (table_of t.now) n.0 }
 {
-    if is_blossom(t, n) {
-        return false;
-    }
-    has_node(t, n)
+    n.0 < crate::counts::begin(t) && has_node(t, n)
 }
 
 pub fn is_outer(t: &Table, n: Node) -> bool
     ensures { result ≡ outer (table_of t.now) n.0 }
 {
-    let state = crate::get(t, n).state;
-    match state {
-        State::Empty => false,
-        State::Inner => false,
-        State::Stay => true,
-        State::Grow => true,
-        State::Shrink => true,
-        State::Damaged => false,
-    }
+    state(t, n).is_outer()
 }
 
 pub fn is_inner(t: &Table, n: Node) -> bool
     ensures { result ≡ inner (table_of t.now) n.0 }
 {
-    let state = crate::get(t, n).state;
-    match state {
-        State::Empty => false,
-        State::Inner => true,
-        State::Stay => false,
-        State::Grow => false,
-        State::Shrink => false,
-        State::Damaged => false,
-    }
+    state(t, n).is_inner()
 }

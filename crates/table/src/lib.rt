@@ -16,7 +16,7 @@ ghost use Rattle.slot.specs.Slot.{slot_of, link_of};
 ghost use Rattle.table.specs.Words.{slot_from, link_from, table_of};
 ghost use Rattle.table.specs.Table.{at};
 
-use slot::{Link, Node, Slot};
+use slot::{Link, Node, Slot, State, Vertex};
 
 // 256 slots of eleven words, then begin, count_defects and count_blossoms: 2,819 words.
 pub type Table = [u16; layout::WORDS];
@@ -28,9 +28,9 @@ fn link_at(t: &Table, b: usize) -> Link
 {
     Link {
         touch: Node(t[b + 0]),
-        through: slot::number::vertex_from(t[b + 2], t[b + 3]),
+        through: Vertex::from_words(t[b + 2], t[b + 3]),
         peer_touch: Node(t[b + 1]),
-        peer_through: slot::number::vertex_from(t[b + 4], t[b + 5]),
+        peer_through: Vertex::from_words(t[b + 4], t[b + 5]),
     }
 }
 
@@ -40,7 +40,7 @@ fn slot_at(t: &Table, b: usize) -> Slot
     ensures { slot_of result ≡ slot_from t.now b }
 {
     Slot {
-        state: slot::state::state_of(t[b + 0]),
+        state: State::from(t[b + 0]),
         parent: Node(t[b + 1]),
         first_child: Node(t[b + 2]),
         sibling: Node(t[b + 3]),
@@ -57,8 +57,9 @@ pub fn get(t: &Table, n: Node) -> Slot
     if i < layout::SLOTS {
         slot_at(t, i * layout::SLOT_WORDS)
     } else {
-        slot::value::empty_slot()
+        Slot::empty()
     }
 }
 
+pub use marks::Marks;
 pub use place::Place;

@@ -1,23 +1,45 @@
-// A number for each slot, in memory lent beside the table. Past its end there is nothing to read and nothing to change.
-ghost use Rattle.std.specs.Prelude.{◌≡◌, set, get_or};
+// A number for each slot. Past the last slot there is nothing to read and nothing to change.
+ghost use Rattle.std.specs.Prelude.{◌≡◌, ℕ, List, set, get_or, replicate};
 
 use slot::Node;
+use std::marker::Model;
 
-pub fn number_of(numbers: &[u16], n: Node) -> u16
-    ensures { result ≡ get_or numbers.now n.0 0 }
-{
-    let i = n.0 as usize;
-    if i < numbers.len() {
-        return numbers[i];
-    }
-    0
+#[derive(Drop)]
+pub struct SlotNumbers {
+    numbers: [u16; 256],
 }
 
-pub fn set_number(numbers: &mut [u16], n: Node, number: u16)
-    ensures { numbers.new ≡ set numbers.old n.0 number }
-{
-    let i = n.0 as usize;
-    if i < numbers.len() {
-        numbers[i] = number;
+impl Model for SlotNumbers {
+    ghost Value = { List ℕ };
+
+    ghost view = { λ s. s.numbers };
+}
+
+impl SlotNumbers {
+    pub fn filled(number: u16) -> SlotNumbers
+        ensures { result ≡ replicate 256 number }
+    {
+        SlotNumbers {
+            numbers: [number; 256],
+        }
+    }
+
+    pub fn get(&self, n: Node) -> u16
+        ensures { result ≡ get_or self.now n.0 0 }
+    {
+        let i = n.0 as usize;
+        if i < 256 {
+            return self.numbers[i];
+        }
+        0
+    }
+
+    pub fn set(&mut self, n: Node, number: u16)
+        ensures { self.new ≡ set self.old n.0 number }
+    {
+        let i = n.0 as usize;
+        if i < 256 {
+            self.numbers[i] = number;
+        }
     }
 }

@@ -7,7 +7,7 @@ ghost use Rattle.table.specs.Place.{place};
 use crate::Table;
 use slot::Node;
 
-#[derive(Clone, Copy)]
+#[derive(Clone, Copy, PartialEq, Eq)]
 pub enum Place {
     Free,
     // Matched to this peer.
@@ -19,22 +19,19 @@ pub enum Place {
 }
 
 // The node's touch, and not its sibling, tells a matched node from a free one: matched to a virtual vertex it has no sibling.
+#[tactic(auto, unfolding(crate::specs::Place::place))]
 pub fn place_of(t: &Table, n: Node) -> Place
     ensures { result ≡ place (at (table_of t.now) n.0) }
 {
     let s = crate::get(t, n);
-    let sibling = s.sibling;
-    if s.parent.0 != slot::number::NO_NODE {
+    if !s.parent.is_none() || !s.first_child.is_none() {
         return Place::Tree;
     }
-    if s.first_child.0 != slot::number::NO_NODE {
-        return Place::Tree;
-    }
-    if s.link.touch.0 == slot::number::NO_NODE {
+    if s.link.touch.is_none() {
         return Place::Free;
     }
-    if sibling.0 == slot::number::NO_NODE {
+    if s.sibling.is_none() {
         return Place::Virtual;
     }
-    Place::Paired(sibling)
+    Place::Paired(s.sibling)
 }

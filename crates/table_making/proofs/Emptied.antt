@@ -1,5 +1,5 @@
--- On a sound table all slots are empty once those given out are.
-use mathlib.Core.Path.{◌≡◌, ◌∙◌}
+-- On a sound table all slots are empty once those given out are, and the table so left is sound.
+use mathlib.Core.Path.{◌≡◌, ap, ◌∙◌}
 use mathlib.Core.Bool.{true}
 use mathlib.Core.List.{List}
 use mathlib.Core.Logic.{inl, inr}
@@ -17,7 +17,8 @@ use Rattle.table_making.specs.Cleared.{cleared}
 use Rattle.table_making.proofs.Cleared.{cleared_full, cleared_begin, cleared_keeps, cleared_at, all-empty}
 use Rattle.rules.specs.Sound.{sound}
 use Rattle.theorems_soundness.specs.Facts.{Sound}
-use Rattle.theorems_soundness.proofs.Reflect.{true_test}
+use Rattle.theorems_soundness.proofs.Kept.{reset_keeps_sound}
+use Rattle.theorems_soundness.proofs.Reflect.{true_test, test_true}
 use Rattle.theorems_soundness.proofs.SoundFacts.{sound→facts}
 use Rattle.theorems_soundness.proofs.GivenSlots.{end_of_blossoms, not_given}
 
@@ -71,3 +72,6 @@ reset-step ws t₁ t₂ t₃ t₄ defects begin end d b e p q r u s =
     let p' = rw (d, sub-zero) at p in
     let q' = rw (b, e, n, p') at q in
     u ∙ rw (r, q') (both_emptied t (slots_length ws) f)
+
+pub emptied_sound : (ws : List ℕ) (t : Table) → t ≡ emptied (table_of ws) → sound (table_of ws) ≡ true → sound t ≡ true
+emptied_sound ws t e s = ap sound e ∙ test_true _ (reset_keeps_sound (table_of ws) (slots_length ws) (true_test _ s))

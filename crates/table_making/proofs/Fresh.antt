@@ -4,9 +4,10 @@ use mathlib.Core.List.{List}
 use Prim.Native.Nat.{ℕ, ◌≤◌, ◌<◌}
 use native.Mathlib.Omega.{arith}
 use borrow.Author.Tests.{le-leb, lt-leb}
+use Rattle.std.specs.Prelude.{Ok, Err}
 use Rattle.refusal.specs.declared.Side.TheVariants.{Neither}
-use Rattle.refusal.specs.declared.Answer.TheVariants.{Done, Refused}
 use Rattle.refusal.specs.declared.Refusal.TheVariants.{BadBegin}
+use Rattle.refusal.specs.Refusal.{at_side}
 use Rattle.table.specs.Table.{Table}
 use Rattle.table.specs.Words.{table_of}
 use Rattle.table.proofs.WordsOfSlots.{slots_length}
@@ -28,10 +29,10 @@ empty-step ws t₁ t₂ t₃ p q r =
 
 -- making
 
-pub made_low : (ws : List ℕ) (b : ℕ) → b < 1 → Made ws b (Refused BadBegin Neither) ws
+pub made_low : (ws : List ℕ) (b : ℕ) → b < 1 → Made ws b (Err (at_side BadBegin Neither)) ws
 made_low ws b h = rw (lt-leb 1 b h) (refl, refl, refl, refl)
 
-pub made_high : (ws : List ℕ) (b : ℕ) → 1 ≤ b → 256 < b → Made ws b (Refused BadBegin Neither) ws
+pub made_high : (ws : List ℕ) (b : ℕ) → 1 ≤ b → 256 < b → Made ws b (Err (at_side BadBegin Neither)) ws
 made_high ws b l h = rw (le-leb 1 b l, lt-leb b 256 h) (refl, refl, refl, refl)
 
 pub made-done :
@@ -40,6 +41,6 @@ pub made-done :
     → b ≤ 256
     → table_of vs ≡ with_begin (table_of ws) b
     → table_of us ≡ emptied (table_of vs)
-    → Made ws b (Done 0) us
+    → Made ws b (Ok 0) us
 unfolding with_begin
 made-done ws vs us b l h p q = rw (le-leb 1 b l, le-leb b 256 h) (refl, refl, q ∙ ap emptied p)

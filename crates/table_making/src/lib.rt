@@ -8,18 +8,16 @@ ghost use Rattle.table.specs.Words.{table_of};
 ghost use Rattle.table.specs.Making.{emptied, Made};
 ghost use Rattle.table_making.specs.Cleared.{cleared};
 
-use refusal::{Answer, Refusal, Side};
-use slot::Node;
+use refusal::{Answer, Refusal};
+use slot::{Node, Slot};
 use table::Table;
 
 // Empties the slots from one up to another (not with it).
 pub fn clear_slots(t: &mut Table, from: u16, to: u16)
     ensures { table_of t.new ≡ cleared (to - from) from (table_of t.old) }
 {
-    let mut i = from;
-    while i < to {
-        table::storing::store(t, Node(i), slot::value::empty_slot());
-        i += 1;
+    for i in from..to {
+        table::storing::store(t, Node(i), Slot::empty());
     }
 }
 
@@ -36,13 +34,10 @@ fn empty_table(t: &mut Table)
 pub fn make(t: &mut Table, begin: u16) -> Answer
     ensures { Made t.old begin result t.new }
 {
-    if begin < 1 {
-        return Answer::Refused(Refusal::BadBegin, Side::Neither);
-    }
-    if 256 < begin {
-        return Answer::Refused(Refusal::BadBegin, Side::Neither);
+    if begin < 1 || 256 < begin {
+        return Err(Refusal::BadBegin.into());
     }
     table::counts::set_begin(t, begin);
     empty_table(t);
-    Answer::Done(0)
+    Ok(0)
 }

@@ -1,3 +1,2 @@
 pub mod NextSteps
 pub mod Tails
-pub mod TurnEndSteps

@@ -7,7 +7,9 @@ use Rattle.record.specs.declared.answer.Record.{Record}
 use Rattle.record.specs.declared.answer.Record.TheVariants as R
 use Rattle.record.specs.Writing.{write_all}
 use Rattle.rules.specs.Act.{World, world_of}
-use Rattle.rules.specs.Run.{Stop, tape_empty, allowance_used, output_full, bad_record, Ran, unsound, ran, run_tape}
+use Rattle.rules.specs.declared.stop.Stop.{Stop}
+use Rattle.rules.specs.declared.stop.Stop.TheVariants as S
+use Rattle.rules.specs.Run.{Ran, unsound, ran, run_tape}
 use Rattle.tape.specs.declared.turn.TurnEnd.{TurnEnd}
 use Rattle.tape.specs.declared.turn.TurnEnd.TheVariants.{TapeRead, GoesOn, BadTape, NotSound}
 use Rattle.tape.specs.declared.turn.Turn.{Turn}
@@ -27,10 +29,10 @@ allowance = most_bytes
 -- A turn is a run of the tape. What it stops for says how the program goes on: for room or for the allowance, with fresh room, until
 -- the tape is empty or bad.
 abbrev pub end_of : Stop → TurnEnd
-end_of tape_empty = TapeRead
-end_of allowance_used = GoesOn
-end_of output_full = GoesOn
-end_of bad_record = BadTape
+end_of S.TapeEmpty = TapeRead
+end_of S.AllowanceUsed = GoesOn
+end_of S.OutputFull = GoesOn
+end_of S.BadRecord = BadTape
 
 -- "ends a bad tape by an end record 12"
 abbrev pub last_records : TurnEnd → List Record

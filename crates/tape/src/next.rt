@@ -2,33 +2,38 @@
 ghost use Rattle.std.specs.Prelude.{◌≡◌};
 ghost use Rattle.tape.specs.Next.{next_of};
 
-use record::{Reading, Request};
+use record::Request;
+use rules::Stop;
 
+// One more record: its request, the bytes that it fills, and how many records are allowed after it.
 #[derive(Clone, Copy)]
-pub enum Next {
-    // The stop's number.
-    Stop(u16),
-    // The request that stands first on the tape, the bytes that its record fills, and how many records are allowed after it.
-    Record(Request, usize, u32),
+pub struct Next {
+    pub request: Request,
+    pub size: usize,
+    pub left: u32,
 }
 
 // 01: "Before each record it stops, in this order". The room is what the output has left: 4,096 bytes for the answers and 8 for
 // the end record.
 #[tactic(auto, unfolding(crate::specs::Next::next_of))]
-pub fn what_next(rest: &[u8], left: u32, room: usize) -> Next
+pub fn what_next(rest: &[u8], left: u32, room: usize) -> Result<Next, Stop>
     ensures { result ≡ next_of rest.now left room }
 {
-    if rest.len() == 0 {
-        return Next::Stop(0);
+    if rest.is_empty() {
+        return Err(Stop::TapeEmpty);
     }
     if left == 0 {
-        return Next::Stop(1);
+        return Err(Stop::AllowanceUsed);
     }
     if room < outcome::RUN_ROOM {
-        return Next::Stop(2);
+        return Err(Stop::OutputFull);
     }
     match record_reading::read_record(rest) {
-        Reading::Request(request, size) => Next::Record(request, size, left - 1),
-        Reading::Refused(refusal) => Next::Stop(3),
+        Ok((request, size)) => Ok(Next {
+            request,
+            size,
+            left: left - 1,
+        }),
+        Err(_) => Err(Stop::BadRecord),
     }
 }

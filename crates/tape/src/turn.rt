@@ -2,10 +2,10 @@
 // the next turn takes.
 ghost use Rattle.std.specs.Prelude.{◌≡◌, ◌-◌, length, drop};
 ghost use Rattle.record.specs.Writing.{out_of, write_all};
-ghost use Rattle.rules.specs.Run.{Stop, stop_number};
 ghost use Rattle.tape.specs.Program.{usual_begin, most_bytes, allowance, end_of, last_records};
 
 use refusal::{Refusal, Side};
+use rules::Stop;
 
 // 01: "The program has begin 128, reads at most 65,536 bytes".
 const BEGIN: u16 = 128;
@@ -55,17 +55,20 @@ pub struct Turn {
     pub unread: usize,
 }
 
-pub fn end_of(stop: u16) -> TurnEnd
-    ensures { (s : Stop) → stop ≡ stop_number s → result ≡ end_of s }
-{
-    match stop {
-        0 => TurnEnd::TapeRead,
-        3 => TurnEnd::BadTape,
-        _ => TurnEnd::GoesOn,
+impl From<Stop> for TurnEnd {
+    ghost from_gives = { λ stop end. end ≡ end_of stop };
+
+    fn from(stop: Stop) -> TurnEnd {
+        match stop {
+            Stop::TapeEmpty => TurnEnd::TapeRead,
+            Stop::AllowanceUsed | Stop::OutputFull => TurnEnd::GoesOn,
+            Stop::BadRecord => TurnEnd::BadTape,
+        }
     }
 }
 
 // 01: "ends a bad tape by an end record 12". The position after it.
+// Kept: lent bytes with a position, since what a turn takes and leaves (TakesTurn) is bytes and how many were written.
 #[tactic(auto, unfolding(record::specs::Writing::write_all))]
 pub fn close(out: &mut [u8], pos: usize, end: TurnEnd) -> usize
     ensures { out_of out.new result ≡ write_all (out_of out.old pos) (last_records end) }
@@ -76,7 +79,7 @@ pub fn close(out: &mut [u8], pos: usize, end: TurnEnd) -> usize
         TurnEnd::BadTape => record_answers::end(
             out,
             pos,
-            refusal::number(Refusal::BadRecord),
+            u16::from(Refusal::BadRecord),
             Side::Neither,
         ),
         TurnEnd::NotSound => pos,

@@ -1,28 +1,19 @@
 // Reads each line of standard input by itself, and prints the record that it makes; a request is then written in words again, and
 // held to the line. A line that is no request is printed with what was expected of it.
 use crate::{made, message};
+use boltclover_shared::Input;
 use std::io;
-use text::{Fault, Line};
-
-fn bad(rt: &HostRuntime, number: u64, fault: Fault) -> io::Result<()> {
-    let mut space = [0u8; 4096];
-    let room: &mut [u8] = &mut space;
-    let n = text::write_fault(room, 0, number, fault);
-    let words = &room[..];
-    if n <= words.len() {
-        rt.print(message::BAD)?;
-        rt.write_all(&words[0..n])?;
-    }
-    Ok(())
-}
+use text::RECORD_ROOM;
 
 fn read(rt: &HostRuntime, line: &[u8], number: u64) -> io::Result<()> {
-    let mut space = [0u8; 24];
-    let record: &mut [u8] = &mut space;
-    match text::read_line(line, record) {
-        Line::Passed => rt.print(message::PASSED_OVER),
-        Line::Request(size) => made::show(rt, record, size, line),
-        Line::Bad(fault) => bad(rt, number, fault),
+    let mut room = [0u8; RECORD_ROOM];
+    match text::read_line(line, &mut room) {
+        Ok(None) => rt.print(message::PASSED_OVER),
+        Ok(Some(record)) => made::show(rt, record, line),
+        Err(fault) => {
+            rt.print(message::BAD)?;
+            println!(rt; "line {number}, {fault}")
+        }
     }
 }
 
@@ -33,20 +24,12 @@ fn by_itself(rt: &HostRuntime, line: &[u8], number: u64) -> io::Result<()> {
 }
 
 // Lines are numbered from 1.
-fn lines(rt: &HostRuntime, text: &[u8]) -> io::Result<()> {
-    let mut from = 0;
-    let mut number: u64 = 0;
-    while from < text.len() {
-        let end = text::next(text, from, b'\n', true);
-        number = number.wrapping_add(1);
-        by_itself(rt, &text[from..end], number)?;
-        from = end + 1;
+pub fn all(rt: &HostRuntime) -> io::Result<()> {
+    let mut text = Input::<65536>::new();
+    text.fill(rt);
+    let lines = text.as_bytes().split_inclusive(|byte| *byte == b'\n');
+    for (line, number) in lines.zip(1u64..) {
+        by_itself(rt, line.strip_suffix(b"\n").unwrap_or(line), number)?;
     }
     Ok(())
-}
-
-pub fn all(rt: &HostRuntime) -> io::Result<()> {
-    let mut text = [0u8; 65536];
-    let n = boltclover_shared::read_input(rt, &mut text);
-    lines(rt, &text[..n])
 }

@@ -1,13 +1,8 @@
 // The record that a line made.
 use crate::message;
 use std::io;
-
-fn hex(rt: &HostRuntime, bytes: &[u8]) -> io::Result<()> {
-    for byte in bytes {
-        print!(rt; "{byte:02x}")?;
-    }
-    Ok(())
-}
+use text::Records;
+use text_decimals::Page;
 
 fn compare(rt: &HostRuntime, own: &[u8], line: &[u8]) -> io::Result<()> {
     if own == line {
@@ -20,25 +15,16 @@ fn compare(rt: &HostRuntime, own: &[u8], line: &[u8]) -> io::Result<()> {
 
 // The words end with a line feed, which the line no longer has.
 fn written(rt: &HostRuntime, record: &[u8], line: &[u8]) -> io::Result<()> {
-    let mut space = [0u8; 4096];
-    let room: &mut [u8] = &mut space;
-    let n = text::write_records(room, 0, record);
-    let words = &room[..];
-    if 0 < n {
-        if n <= words.len() {
-            compare(rt, &words[0..n - 1], line)?;
-        }
+    let mut page = Page::<4096>::new();
+    page.add(Records(record));
+    match page.as_bytes().strip_suffix(b"\n") {
+        Some(words) => compare(rt, words, line),
+        None => Ok(()),
     }
-    Ok(())
 }
 
-// The first n bytes.
-pub fn show(rt: &HostRuntime, record: &[u8], n: usize, line: &[u8]) -> io::Result<()> {
-    if record.len() < n {
-        return Ok(());
-    }
-    let bytes = &record[0..n];
+pub fn show(rt: &HostRuntime, record: &[u8], line: &[u8]) -> io::Result<()> {
     rt.print(message::RECORD)?;
-    hex(rt, bytes)?;
-    written(rt, bytes, line)
+    crate::show::hex(rt, record)?;
+    written(rt, record, line)
 }

@@ -1,17 +1,16 @@
 // Reading: each request's record at every length of the tape, padding, the largest numbers, and every kind with every length. A
 // request that was read is written again, so that its line shows its bytes, without padding.
 use crate::show;
-use record::Reading;
-use refusal::{Answer, Side};
+use refusal::Answer;
 use std::io;
 
 fn again(rt: &HostRuntime, tape: &[u8], out: &mut [u8; 24]) -> io::Result<Answer> {
     match record_reading::read_record(tape) {
-        Reading::Request(request, size) => {
+        Ok((request, size)) => {
             show::told(rt, " ", size)?;
-            Ok(record_writing::requests::write_request(out, 0, request))
+            Ok(record_writing::write(out, 0, request))
         }
-        Reading::Refused(refusal) => Ok(Answer::Refused(refusal, Side::Neither)),
+        Err(refusal) => Ok(Err(refusal.into())),
     }
 }
 
@@ -74,8 +73,8 @@ fn taken(kind: u8, length: u8, byte: u8) -> usize {
     tape[2] = kind;
     tape[3] = 0;
     match record_reading::read_record(&tape) {
-        Reading::Request(_, size) => size,
-        Reading::Refused(_) => 0,
+        Ok((_, size)) => size,
+        Err(_) => 0,
     }
 }
 

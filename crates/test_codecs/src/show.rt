@@ -10,16 +10,17 @@ pub fn told(rt: &HostRuntime, words: &str, n: usize) -> io::Result<()> {
 // What came of a call, the bytes lent to it in hexadecimal, two digits each, and the end of the line.
 pub fn outcome(rt: &HostRuntime, answer: Answer, lent: &[u8; 24]) -> io::Result<()> {
     match answer {
-        Answer::Done(size) => told(rt, " done ", size)?,
-        Answer::Refused(refusal, _) => told(rt, " refused ", refusal::number(refusal) as usize)?,
+        Ok(size) => told(rt, " done ", size)?,
+        Err(refused) => told(rt, " refused ", usize::from(u16::from(refused.refusal)))?,
     }
-    bytes(rt, lent)
+    rt.print(" ")?;
+    hex(rt, lent)?;
+    rt.println("")
 }
 
-fn bytes(rt: &HostRuntime, lent: &[u8; 24]) -> io::Result<()> {
-    rt.print(" ")?;
-    for byte in lent {
+pub fn hex(rt: &HostRuntime, bytes: &[u8]) -> io::Result<()> {
+    for byte in bytes {
         print!(rt; "{byte:02x}")?;
     }
-    rt.println("")
+    Ok(())
 }

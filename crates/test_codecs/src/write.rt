@@ -54,9 +54,9 @@ fn request_of(i: u8) -> Request {
 // The first eight records are answers, the others requests.
 fn put(out: &mut [u8], pos: usize, i: u8) -> Answer {
     if i < 8 {
-        return record_writing::write_answer(out, pos, answer_of(i));
+        return record_writing::write(out, pos, answer_of(i));
     }
-    record_writing::requests::write_request(out, pos, request_of(i))
+    record_writing::write(out, pos, request_of(i))
 }
 
 fn record(rt: &HostRuntime, i: u8, room: usize, pos: usize) -> io::Result<()> {

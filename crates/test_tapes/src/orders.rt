@@ -1,7 +1,5 @@
 // Scripts: some requests, and then listings; the last of the requests come in every order. A script's first group tells how many
 // these are, at most seven.
-ghost use Rattle.std.specs.Prelude.{◌≤◌};
-
 use crate::telling::told;
 use std::io;
 use table::Table;
@@ -35,36 +33,27 @@ pub fn at(script: &[u8], order: usize, k: usize) -> usize {
 // no request of a script has more answers.
 pub const ROOM: usize = 2600;
 
-// Whether an accepted request has the answers that start here: a refused one is answered by its end alone, a record of kind 19, with
-// the refusal's number. No answer has a kind above 21.
-fn is_accepted(out: &[u8; 65536], from: usize) -> bool
-    requires { from ≤ 61434 }
-{
-    if out[from + 2] == 19 {
-        return out[from + 4] == 0;
+// Whether an accepted request has these answers: a refused one is answered by its end alone, a record of kind 19, with the refusal's
+// number. No answer has a kind above 21.
+fn is_accepted(answers: &[u8]) -> bool {
+    match answers {
+        [_, _, 19, _, number, ..] => *number == 0,
+        [_, _, kind, ..] => *kind < 22,
+        _ => false,
     }
-    out[from + 2] < 22
 }
 
 fn are_accepted(out: &[u8; 65536]) -> bool {
-    for i in 1..24 {
-        if !is_accepted(out, i * ROOM) {
-            return false;
-        }
-    }
-    true
+    out.chunks(ROOM).skip(1).take(23).all(is_accepted)
 }
 
 // How many orders there are to try: none where a request is refused.
 pub fn count(script: &[u8], out: &[u8; 65536]) -> usize {
-    if script.len() < 1 {
-        return 0;
-    }
-    if !are_accepted(out) {
-        return 0;
-    }
     let orders: [usize; 8] = [1, 1, 2, 6, 24, 120, 720, 5040];
-    orders[(script[0] % 8) as usize]
+    match script.first() {
+        Some(letter) if are_accepted(out) => orders[(*letter % 8) as usize],
+        _ => 0,
+    }
 }
 
 // Whether two orders end in the same table, with the same answers to each request and the same listing.

@@ -4,7 +4,7 @@ ghost use Rattle.std.specs.Prelude.{◌≤◌, length};
 
 use crate::ROOM;
 use crate::telling::told;
-use std::io::Read;
+use boltclover_shared::input::read_from;
 use std::rt::Files;
 use std::{fs, io};
 
@@ -15,27 +15,12 @@ pub fn begin(case: &[u8]) -> u16 {
     (case[0] % 16) as u16 * 100 + (case[1] % 16) as u16 * 10 + (case[2] % 16) as u16
 }
 
-// Fills the bytes from a reader until there is no more room or no more input, and tells how many there are. A read that fails ends the
-// input.
-pub fn fill(reader: &mut impl Read, bytes: &mut [u8]) -> usize
-    ensures { result ≤ length bytes.new }
-{
-    let mut done = 0;
-    while done < bytes.len() {
-        match reader.read(&mut bytes[done..]) {
-            Ok(0) | Err(_) => break,
-            Ok(n) => done += n,
-        }
-    }
-    done
-}
-
 fn read(rt: &impl Files, name: &[u8], bytes: &mut [u8]) -> usize
     ensures { result ≤ length bytes.new }
 {
     if let Ok(path) = str::from_utf8(name) {
         if let Ok(mut file) = fs::open(rt, path) {
-            return fill(&mut file, bytes);
+            return read_from(&mut file, bytes);
         }
     }
     0

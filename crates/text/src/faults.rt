@@ -1,54 +1,50 @@
 // What is wrong with a line that is no request: where, and what was expected there.
-use crate::forms;
-use crate::forms::FORMS;
-use crate::line::Fault;
-use crate::pieces::nth;
-use crate::writing::write_named;
-use text_decimals::write_bytes;
+use crate::grammar::Word;
+use std::fmt;
 
-fn write_expected_number(out: &mut [u8], pos: usize, mark: u8) -> usize {
-    if mark == b'n' {
-        return write_bytes(out, pos, b"a node number, 0 to 65535, or none");
-    }
-    write_bytes(out, pos, b"a vertex number, 0 to 4294967295, or none")
+#[derive(Clone, Copy)]
+pub enum Expected {
+    // The first word of any request.
+    Request,
+    Word(Word),
+    // No more words.
+    End,
 }
 
-fn write_expected_word(out: &mut [u8], pos: usize, word: &[u8]) -> usize {
-    if word.len() == 0 {
-        return write_bytes(out, pos, b"the end of the line");
-    }
-    if word.len() == forms::MARK_LENGTH {
-        return write_expected_number(out, pos, word[1]);
-    }
-    let p = write_bytes(out, pos, b"the word ");
-    write_bytes(out, p, word)
+// The first place at which a line is no request, counted from 0.
+#[derive(Clone, Copy)]
+pub struct Fault {
+    pub place: usize,
+    pub expected: Expected,
 }
 
-fn write_expected(out: &mut [u8], pos: usize, kind: u16, word: usize) -> usize {
-    if kind == 0 {
-        return write_bytes(
-            out,
-            pos,
-            b"a request: conflict, virtual, expand, reset or list",
-        );
+impl Fault {
+    // The fault of a line that goes wrong where its rest begins.
+    pub fn before(line: &[u8], rest: &[u8], expected: Expected) -> Fault {
+        Fault {
+            place: line.len().saturating_sub(rest.len()),
+            expected,
+        }
     }
-    let form = nth(&FORMS, b'|', kind as usize);
-    write_expected_word(out, pos, nth(nth(form, b'\n', 0), b' ', word))
 }
 
-// Columns are counted from 1. A line that is read has fewer than 65,536 bytes.
-fn column(place: usize) -> u64 {
-    if place < 65536 {
-        return place as u64 + 1;
+impl fmt::Display for Expected {
+    fn fmt<W: fmt::Write>(&self, f: &mut fmt::Formatter<W>) -> fmt::Result {
+        match *self {
+            Expected::Request => {
+                f.write_str("a request: conflict, virtual, expand, reset or list")
+            }
+            Expected::Word(word) => write!(f, "{word}"),
+            Expected::End => f.write_str("the end of the line"),
+        }
     }
-    place as u64
 }
 
-// As "line 3, column 10: expected the word touch".
-pub fn write_fault(out: &mut [u8], pos: usize, line: u64, fault: Fault) -> usize {
-    let p = write_named(out, pos, b"line ", line);
-    let q = write_named(out, p, b", column ", column(fault.place));
-    let e = write_bytes(out, q, b": expected ");
-    let end = write_expected(out, e, fault.kind, fault.word);
-    write_bytes(out, end, b"\n")
+// As "column 10: expected the word touch". Columns are counted from 1.
+impl fmt::Display for Fault {
+    fn fmt<W: fmt::Write>(&self, f: &mut fmt::Formatter<W>) -> fmt::Result {
+        let column = self.place.saturating_add(1);
+        let expected = self.expected;
+        write!(f, "column {column}: expected {expected}")
+    }
 }

@@ -1,19 +1,20 @@
 // Requests and answers in words, a line each, and back. An answer's line is indented by two spaces.
 #![tactic(auto)]
 
+mod asking;
+mod bad_records;
 mod faults;
-mod fields;
-mod forms;
+mod grammar;
 pub mod line;
-pub mod partner;
-mod pieces;
-pub mod reasons;
+mod numbers;
+mod refusals;
+pub mod shown;
 mod words;
-pub mod writing;
 
-pub use faults::write_fault;
-pub use fields::narrow_at;
-pub use line::{Fault, Line, read_line};
-pub use pieces::{next, nth};
-pub use reasons::{write_bad_record, write_numbers, write_reason};
-pub use writing::{write_form, write_named, write_records};
+pub use asking::{Nobody, Question};
+pub use bad_records::{BadRecord, RecordFault};
+pub use faults::{Expected, Fault};
+pub use line::{RECORD_ROOM, read_line};
+pub use numbers::narrow_at;
+pub use refusals::Reason;
+pub use shown::{End, Records};

@@ -1,172 +1,123 @@
 // One line, read as a request.
-use crate::fields::{none, place, put, size};
-use crate::forms;
-use crate::forms::FORMS;
-use crate::partner::{NOBODY, QUESTION};
-use crate::pieces::nth;
-use crate::words::{is_blank, same_word, start_of, word_from};
-use text_decimals::Number;
+use crate::faults::Expected;
+use crate::grammar::{LISTING, NOBODY, QUESTION, Word};
+use crate::numbers::put;
+use crate::words::{from_word, is_indented, is_word, split_word};
+use crate::{Fault, grammar};
+use record::Kind;
+use slot::{Node, Vertex};
 
-// What a line says.
-#[derive(Clone, Copy)]
-pub enum Line {
-    // Nothing to read here: an empty line, a comment, an answer, the heading of the listing, or a question for a partner.
-    Passed,
-    // A request, whose record fills so many bytes.
-    Request(usize),
-    Bad(Fault),
-}
+// More than the record of any request fills.
+pub const RECORD_ROOM: usize = 24;
 
-// The first place at which a line is no request, counted from 0, and the word that was expected there: of the form of this kind,
-// the one that so many others stand before. Kind 0: the first word of any request.
-#[derive(Clone, Copy)]
-pub struct Fault {
-    pub place: usize,
-    pub kind: u16,
-    pub word: usize,
-}
-
-// No form has more than nine words, so the tenth is to be empty.
-const WORDS: usize = 10;
-
-fn number(word: &[u8], none: u32) -> Number {
-    if same_word(word, b"none") {
-        return Number::Is(none);
+fn read_number(word: &[u8], none: u32) -> Option<u32> {
+    if is_word(word, "none") {
+        return Some(none);
     }
     text_decimals::read_decimal(word, none)
 }
 
-// Whether a word is the form's; where that is a mark, the number goes to its place in the record.
-fn read_word(word: &[u8], form: &[u8], record: &mut [u8]) -> bool {
-    if form.len() != forms::MARK_LENGTH {
-        return same_word(word, form);
+// The bytes of a word's number go to their place in the record.
+fn read_node(word: &[u8], record: &mut [u8], at: usize) -> Option<()> {
+    let number = u16::try_from(read_number(word, Node::NONE.0 as u32)?).ok()?;
+    put(record, at, &number.to_le_bytes());
+    Some(())
+}
+
+fn read_vertex(word: &[u8], record: &mut [u8], at: usize) -> Option<()> {
+    let number = read_number(word, Vertex::NONE.0)?;
+    put(record, at, &number.to_le_bytes());
+    Some(())
+}
+
+// Whether a word is the expected one; a number goes to its place in the record.
+fn read_word(word: &[u8], expected: Word, record: &mut [u8]) -> bool {
+    match expected {
+        Word::Is(own) => is_word(word, own),
+        Word::Node(at) => read_node(word, record, at).is_some(),
+        Word::Vertex(at) => read_vertex(word, record, at).is_some(),
+        Word::Speed(_) => grammar::SPEEDS.iter().any(|speed| is_word(word, speed)),
     }
-    if form[0] != b'#' {
-        return same_word(word, form);
-    }
-    let mark = form[1];
-    match number(word, none(mark)) {
-        Number::Is(n) => {
-            put(record, place(form[2]), n, size(mark));
-            true
+}
+
+// Reads a line that is to be in these words, and no more.
+fn read_words(line: &[u8], words: &[Word], record: &mut [u8]) -> Result<(), Fault> {
+    let mut rest = line;
+    for expected in words {
+        rest = from_word(rest);
+        let (word, behind) = split_word(rest);
+        if !read_word(word, *expected, record) {
+            return Err(Fault::before(line, rest, Expected::Word(*expected)));
         }
-        Number::Unreadable => false,
+        rest = behind;
     }
+    rest = from_word(rest);
+    if rest.is_empty() {
+        return Ok(());
+    }
+    Err(Fault::before(line, rest, Expected::End))
 }
 
-// The first word of a line, from this one on, that is not the form's.
-fn first_other(line: &[u8], form: &[u8], n: usize, record: &mut [u8]) -> usize {
-    if WORDS <= n {
-        return WORDS;
-    }
-    let word = word_from(line, start_of(line, n));
-    if !read_word(word, nth(form, b' ', n), record) {
-        return n;
-    }
-    first_other(line, form, n + 1, record)
+fn is_in_words(line: &[u8], words: &[Word]) -> bool {
+    let mut record = [0u8; RECORD_ROOM];
+    read_words(line, words, &mut record).is_ok()
 }
 
-// The kind of the request that begins with a word, this one or one before it; 0 for none.
-fn kind_of(first: &[u8], kind: u16) -> u16 {
-    if kind == 0 {
-        return 0;
-    }
-    let form = nth(&FORMS, b'|', kind as usize);
-    if same_word(first, nth(nth(form, b'\n', 0), b' ', 0)) {
-        return kind;
-    }
-    kind_of(first, kind - 1)
+// The request whose line begins with a word.
+fn request_kind(first: &[u8]) -> Option<Kind> {
+    grammar::REQUESTS
+        .iter()
+        .copied()
+        .find(|kind| match grammar::words_of(*kind).first() {
+            Some(Word::Is(name)) => is_word(first, name),
+            _ => false,
+        })
 }
 
-// The length and the kind stand first. Returns the bytes that the record fills.
-fn put_header(record: &mut [u8], kind: u16) -> usize {
-    let length = record::layout::layout_of(kind).length;
-    put(record, 0, length as u32 + kind as u32 * 65536, 4);
+// The length and the kind stand first in a record. Returns how many bytes it fills.
+fn put_header(record: &mut [u8], kind: Kind) -> usize {
+    let length = kind.length();
+    put(record, 0, &length.to_le_bytes());
+    put(record, 2, &u16::from(kind).to_le_bytes());
     2 + length as usize
 }
 
-fn read_request(line: &[u8], kind: u16, record: &mut [u8]) -> Line {
-    let form = nth(&FORMS, b'|', kind as usize);
-    let word = first_other(line, nth(form, b'\n', 0), 0, record);
-    if word < WORDS {
-        return Line::Bad(Fault {
-            place: start_of(line, word),
-            kind: kind,
-            word: word,
-        });
-    }
-    Line::Request(put_header(record, kind))
-}
-
-// Whether all words of a line are the form's.
-fn has_form(line: &[u8], form: &[u8]) -> bool {
-    let mut record = [0u8; 24];
-    first_other(line, form, 0, &mut record) == WORDS
-}
-
-// Whether a line is the answer of this number or of one before it. The two blanks of the form stand before its first word.
-fn is_answer(line: &[u8], number: usize) -> bool {
-    if number < forms::FIRST_ANSWER {
-        return false;
-    }
-    let form = nth(nth(&FORMS, b'|', number), b'\n', 0);
-    if form.len() < 2 {
-        return false;
-    }
-    if has_form(line, &form[2..]) {
-        return true;
-    }
-    is_answer(line, number - 1)
+fn read_request(line: &[u8], kind: Kind, record: &mut [u8]) -> Result<usize, Fault> {
+    read_words(line, grammar::words_of(kind), record)?;
+    Ok(put_header(record, kind))
 }
 
 // Answers are told from requests by their words, and are passed over only where they are indented, as they are printed. What a
 // refusal says after its first word differs from one to the next.
 fn is_indented_answer(line: &[u8], first: &[u8]) -> bool {
-    if line.len() == 0 {
-        return false;
-    }
-    if !is_blank(line[0]) {
-        return false;
-    }
-    if same_word(first, b"refused") {
-        return true;
-    }
-    if has_form(line, &NOBODY) {
-        return true;
-    }
-    is_answer(line, forms::END)
+    is_indented(line)
+        && (is_word(first, "refused")
+            || is_in_words(line, &NOBODY)
+            || grammar::ANSWERS
+                .iter()
+                .any(|kind| is_in_words(line, grammar::words_of(*kind))))
 }
 
 fn is_passed(line: &[u8], first: &[u8]) -> bool {
-    if first.len() == 0 {
-        return true;
-    }
-    if first[0] == b'#' {
-        return true;
-    }
-    if has_form(line, b"listing") {
-        return true;
-    }
-    if has_form(line, &QUESTION) {
-        return true;
-    }
-    is_indented_answer(line, first)
+    first.is_empty()
+        || first[0] == b'#'
+        || is_in_words(line, &LISTING)
+        || is_in_words(line, &QUESTION)
+        || is_indented_answer(line, first)
 }
 
-// Reads a line, without its line feed, into the record, as far as there is room.
-pub fn read_line(line: &[u8], record: &mut [u8]) -> Line {
-    let start = start_of(line, 0);
-    let first = word_from(line, start);
-    let kind = kind_of(first, record::kind::LIST);
-    if kind != 0 {
-        return read_request(line, kind, record);
+// Reads a line, without its line feed, and returns the record of its request, made in the room as far as there is room; or none where
+// there is nothing to read: at an empty line, a comment, an answer, the heading of the listing, or a question for a partner.
+pub fn read_line<'a>(line: &[u8], room: &'a mut [u8]) -> Result<Option<&'a [u8]>, Fault> {
+    let rest = from_word(line);
+    let (first, _) = split_word(rest);
+    match request_kind(first) {
+        Some(kind) => {
+            let size = read_request(line, kind, room)?;
+            let made = size.min(room.len());
+            Ok(Some(&room[..made]))
+        }
+        None if is_passed(line, first) => Ok(None),
+        None => Err(Fault::before(line, rest, Expected::Request)),
     }
-    if is_passed(line, first) {
-        return Line::Passed;
-    }
-    Line::Bad(Fault {
-        place: start,
-        kind: 0,
-        word: 0,
-    })
 }

@@ -1,8 +1,6 @@
 -- Numbers in decimal: the bytes that one is written in, and the number that a word says.
-use Rattle.std.specs.Prelude.{ℕ, zero, suc, ◌+◌, ◌-◌, ◌*◌, ◌/◌, ◌%◌, Bool, true, false, ◌&&◌, List, [], ◌∷◌, ◌++◌, ltb, leb}
+use Rattle.std.specs.Prelude.{ℕ, zero, suc, ◌+◌, ◌-◌, ◌*◌, ◌/◌, ◌%◌, Bool, true, false, ◌&&◌, List, [], ◌∷◌, ◌++◌, Option, Some, None, ltb, leb}
 use Rattle.lists.specs.Choice.{pick}
-use Rattle.text_decimals.specs.declared.Number.{Number}
-use Rattle.text_decimals.specs.declared.Number.TheVariants.{Is, Unreadable}
 
 -- the byte of a digit: 48 is `0`, 57 is `9`
 abbrev pub digit : ℕ → ℕ
@@ -41,5 +39,5 @@ abbrev pub value : List ℕ → ℕ
 value bs = value_after 0 bs
 
 -- the number that a word says, where it is a number and no larger than most
-unfoldable pub number_within : ℕ → List ℕ → Number
-number_within most bs = pick (is_number bs) (pick (leb (value bs) most) (Is (value bs)) Unreadable) Unreadable
+unfoldable pub number_within : ℕ → List ℕ → Option ℕ
+number_within most bs = pick (is_number bs) (pick (leb (value bs) most) (Some (value bs)) None) None

@@ -5,10 +5,10 @@ use mathlib.Core.Bool.{Bool, true, ◌&&◌}
 use mathlib.Core.List.{List, [], ◌∷◌}
 use Prim.Native.Nat.{ℕ}
 use lib.Dec.{T}
+use Rattle.refusal.specs.Refusal.{Verdict}
+use Rattle.std.specs.Prelude.{Ok, Err}
 use Rattle.table.specs.Table.{Table}
 use Rattle.table.specs.Making.{fresh, begin_fits}
-use Rattle.refusal.specs.declared.Verdict.{Verdict}
-use Rattle.refusal.specs.declared.Verdict.TheVariants.{Accepted, Refused}
 use Rattle.record.specs.declared.request.Request.{Request}
 use Rattle.rules.specs.Sound.{sound}
 use Rattle.rules.specs.Calls.{act_of, verdict, answered, is_accepted}
@@ -26,15 +26,15 @@ unfoldable pub accepted_later : List Request → Table → Bool
 accepted_later [] t = true
 accepted_later (r ∷ rs) t = let rest = accepted_later rs (act_of r t).table in is_accepted (later_verdict r t 4096) && rest
 
-is_accepted_lem : (v : Verdict) → T (is_accepted v) → v ≡ Accepted
-is_accepted_lem Accepted h = refl
-is_accepted_lem (Refused n s) h = absurd h
+is_accepted_lem : (v : Verdict) → T (is_accepted v) → v ≡ Ok tt
+is_accepted_lem (Ok u) h = refl
+is_accepted_lem (Err e) h = absurd h
 
 module _ (r : Request) (t : Table) (w : Whole t) where
-  accepted : T (is_accepted (later_verdict r t 4096)) → verdict r t 4096 ≡ Accepted
+  accepted : T (is_accepted (later_verdict r t 4096)) → verdict r t 4096 ≡ Ok tt
   accepted h = sound-verdict r t 4096 (test_true (sound t) (from_whole t w)) ∙ is_accepted_lem (later_verdict r t 4096) h
 
-  still_whole : verdict r t 4096 ≡ Accepted → Whole (act_of r t).table
+  still_whole : verdict r t 4096 ≡ Ok tt → Whole (act_of r t).table
   unfolding answered
   still_whole e = rw e at (answered_keeps r 4096 t w)
 

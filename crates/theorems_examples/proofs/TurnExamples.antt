@@ -5,7 +5,7 @@ use Prim.Native.Nat.{ℕ}
 use lib.ListN.{length, take, replicate}
 use Rattle.table.specs.Making.{fresh}
 use Rattle.record.specs.declared.request.Request.TheVariants as Q
-use Rattle.record.specs.Kinds.{layout_of}
+use Rattle.record.specs.Kinds.{kind_of}
 use Rattle.record.specs.Records.{request_bytes, answer_bytes}
 use Rattle.record.specs.Reading as reading
 use Rattle.record.specs.Writing.{out_of, placed, written, write_all}
@@ -49,5 +49,5 @@ turns-seen :
     × (turn_in 4104 tape ≡ seen GoesOn end_0 4)
     × (turn_in 4200 (tape ++ 7 ∷ []) ≡ seen BadTape (end_0 ++ end_0 ++ end_12) 1)
     × (turn_in 4200 [] ≡ seen TapeRead [] 0)
-unfolding all_rules seen seen_of turn_in tape end_0 end_12 request_bytes answer_bytes layout_of reading.read placed written write_all
+unfolding all_rules seen seen_of turn_in tape end_0 end_12 request_bytes answer_bytes kind_of reading.read placed written write_all
 turns-seen = (refl, refl, refl, refl)

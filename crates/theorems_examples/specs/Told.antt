@@ -1,9 +1,9 @@
 -- How the worked examples tell the number and the side that a request is given, and what a run reports.
+use Rattle.refusal.specs.Refusal.{Verdict}
 use Rattle.std.specs.Prelude.{◌≡◌, List, [], ℕ, length, take}
 use Rattle.table.specs.Table.{Table}
 use Rattle.table.specs.Making.{fresh}
 use Rattle.record.specs.declared.request.Request.{Request}
-use Rattle.refusal.specs.declared.Verdict.{Verdict}
 use Rattle.rules.specs.Calls.{verdict, verdict_number, verdict_side}
 use Rattle.rules.specs.Run.{Ran, unsound, ran, stop_number}
 use Rattle.rules.specs.Script.{after}

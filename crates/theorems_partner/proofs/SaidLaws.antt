@@ -6,19 +6,24 @@ use mathlib.Core.List.{List, [], ◌∷◌, ◌++◌}
 use Prim.Native.Nat.{ℕ, ◌≤◌}
 use native.Mathlib.Omega.{arith}
 use lib.Dec.{T_not}
+use Rattle.std.specs.Prelude.{Option, Some, None, Ok}
 use Rattle.record.specs.declared.answer.Pair.{Pair}
 use Rattle.record.specs.declared.answer.VirtualPair.{VirtualPair}
 use Rattle.record.specs.declared.answer.Record.{Record}
 use Rattle.record.specs.declared.answer.Record.TheVariants as R
 use Rattle.rules.specs.Walk.{is_in}
 use Rattle.outcome.specs.declared.partner.Partner.{Partner}
-use Rattle.outcome.specs.declared.partner.Partner.TheVariants as P
+use Rattle.outcome.specs.declared.partner.Partner.TheVariants.{Defect, Virtual}
 use Rattle.outcome.specs.PartnerInNumbers.{partner_kind}
 use Rattle.theorems_soundness.specs.Chain.{◌∈◌}
 use Rattle.theorems_requests.specs.Named.{named_by, named_in, times, Each}
 use Rattle.theorems_partner.specs.Said.{turned, seen_from, said_of}
 use Rattle.theorems_soundness.proofs.Reflect.{pick_yes, pick_no, is_in↔, test_case, same_or_not, eqb_yes, eqb_no}
 use Rattle.theorems_requests.proofs.CountLaws.{one_same, times-append}
+
+-- the kind that is told of it
+abbrev pub kind : Option Partner → ℕ
+kind p = partner_kind (Ok p)
 
 -- ---- entries of a list
 
@@ -63,7 +68,7 @@ module _ (d : ℕ) where
   unfolding said_of
   said_later x xs n = pick_no (is_in d (named_by x)) (seen_from d x) (said_of d xs) (λ h. n ((is_in↔ d (named_by x)).0 h))
 
-  said_of_none : said_of d [] ≡ P.Nobody
+  said_of_none : said_of d [] ≡ None
   unfolding said_of
   said_of_none = refl
 
@@ -71,7 +76,7 @@ module _ (d : ℕ) where
   unnamed x z m = omega (arith, counted (named_by x) m)
 
   -- no entry names d
-  pub said_nobody : (rs : List Record) → times d (named_in rs) ≡ 0 → said_of d rs ≡ P.Nobody
+  pub said_nobody : (rs : List Record) → times d (named_in rs) ≡ 0 → said_of d rs ≡ None
   said_nobody [] z = said_of_none
   said_nobody (x ∷ xs) z =
       let parts = times-append d (named_by x) (named_in xs) in
@@ -89,13 +94,13 @@ module _ (d : ℕ) where
 
   -- ---- back from what is said to an entry
 
-  pub record Source (a : Partner) (rs : List Record) : Type 0 where
+  pub record Source (a : Option Partner) (rs : List Record) : Type 0 where
     pub entry : Record
     pub there : IsEntry entry rs
     pub names : d ∈ named_by entry
     pub sees : seen_from d entry ≡ a
 
-  pub source : (a : Partner) (rs : List Record) → a ≢ P.Nobody → said_of d rs ≡ a → Source a rs
+  pub source : (a : Option Partner) (rs : List Record) → a ≢ None → said_of d rs ≡ a → Source a rs
   source a [] n e = absurd (n (sym e ∙ said_of_none))
   source a (x ∷ xs) n e =
       elim (test_case (is_in d (named_by x))) [
@@ -110,17 +115,17 @@ module _ (d : ℕ) where
   abbrev pub PairSeen : Pair → Record → Type 0
   PairSeen p r = ((r ≡ R.Pair p) × (p.node.0 ≡ d)) ⊎ ((r ≡ R.Pair (turned p)) × (p.node.0 ≡ d))
 
-  pub pair_seen : (r : Record) (p : Pair) → d ∈ named_by r → seen_from d r ≡ P.Defect p → PairSeen p r
+  pub pair_seen : (r : Record) (p : Pair) → d ∈ named_by r → seen_from d r ≡ Some (Defect p) → PairSeen p r
   pair_seen (R.Speed n s) p m e = absurd m
   pair_seen (R.Create n) p m e = absurd m
   pair_seen (R.Expand n) p m e = absurd m
   pair_seen (R.End n s) p m e = absurd m
-  pair_seen (R.VirtualPair q) p m e = absurd (omega (arith, ap partner_kind e))
+  pair_seen (R.VirtualPair q) p m e = absurd (omega (arith, ap kind e))
   pair_seen (R.Pair q) p m e =
       elim (same_or_not q.node.0 d) [
-        | inl z ↦ let f : P.Defect q ≡ P.Defect p = rw (eqb_yes q.node.0 d z) at e in let g : q ≡ p = cc in inl (ap R.Pair g, rw (sym g) z)
+        | inl z ↦ let f : ◌≡◌ {A = Option Partner} (Some (Defect q)) (Some (Defect p)) = rw (eqb_yes q.node.0 d z) at e in let g : q ≡ p = cc in inl (ap R.Pair g, rw (sym g) z)
         | inr z ↦
-            let f : P.Defect (turned q) ≡ P.Defect p = rw (eqb_no q.node.0 d z) at e in
+            let f : ◌≡◌ {A = Option Partner} (Some (Defect (turned q))) (Some (Defect p)) = rw (eqb_no q.node.0 d z) at e in
             let g : turned q ≡ p = cc in
             inr (ap (λ (u : Pair). R.Pair (turned u)) g, rw (sym g) (other m z))
       ]
@@ -130,11 +135,11 @@ module _ (d : ℕ) where
       other (inr (inl u)) z = sym u
       other (inr (inr m)) z = absurd m
 
-  pub virtual_seen : (r : Record) (p : VirtualPair) → d ∈ named_by r → seen_from d r ≡ P.Virtual p → p.node.0 ≡ d
+  pub virtual_seen : (r : Record) (p : VirtualPair) → d ∈ named_by r → seen_from d r ≡ Some (Virtual p) → p.node.0 ≡ d
   virtual_seen (R.Speed n s) p m e = absurd m
   virtual_seen (R.Create n) p m e = absurd m
   virtual_seen (R.Expand n) p m e = absurd m
   virtual_seen (R.End n s) p m e = absurd m
-  virtual_seen (R.Pair q) p m e = absurd (omega (arith, ap partner_kind e))
+  virtual_seen (R.Pair q) p m e = absurd (omega (arith, ap kind e))
   virtual_seen (R.VirtualPair q) p (inl u) e = let g : q ≡ p = cc in rw (sym g) (sym u)
   virtual_seen (R.VirtualPair q) p (inr m) e = absurd m

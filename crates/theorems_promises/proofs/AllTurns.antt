@@ -7,9 +7,9 @@ use Prim.Native.Nat.{ℕ, zero, suc, ◌+◌, ◌-◌, ◌≤◌, ◌<◌}
 use native.Mathlib.Omega.{arith}
 use lib.Dec.{T}
 use lib.ListN.{length}
+use Rattle.std.specs.Prelude.{Ok}
 use Rattle.table.specs.Words.{table_of}
 use Rattle.table.specs.Making.{fresh, begin_fits, Made}
-use Rattle.refusal.specs.declared.Answer.TheVariants as A
 use Rattle.refusal.specs.declared.Side.TheVariants.{Neither}
 use Rattle.refusal.specs.declared.Refusal.TheVariants.{BadRecord}
 use Rattle.refusal.specs.Refusal.{number_of}
@@ -188,12 +188,12 @@ in_one begin n tape rest wrote end b h e =
 
 made_by :
     (fits : Bool) (before : List ℕ) (b n : ℕ) (after : List ℕ)
-    → MadeBy fits before b (A.Done n) after
+    → MadeBy fits before b (Ok n) after
     → table_of after ≡ fresh b
 made_by true before b n after h = h.2
 made_by false before b n after h = absurd (omega (arith, h.0))
 
-made_fresh : (before : List ℕ) (b n : ℕ) (after : List ℕ) → Made before b (A.Done n) after → table_of after ≡ fresh b
+made_fresh : (before : List ℕ) (b n : ℕ) (after : List ℕ) → Made before b (Ok n) after → table_of after ≡ fresh b
 made_fresh before b n after h = made_by (begin_fits b) before b n after h
 
 -- turns on it: what they leave, on the table that was made
@@ -206,7 +206,7 @@ pub record FreshLeft (begin : ℕ) (tape words' : List ℕ) (handled turns : ℕ
 
 pub fresh-left :
     (begin : ℕ) (before words tape : List ℕ)
-    → Made before begin (A.Done 0) words
+    → Made before begin (Ok 0) words
     → (ts : Turns words tape)
     → FreshLeft begin tape (last_words ts) (all_handled ts) (how_many ts) (last_end ts) (last_rest ts) (all_written ts)
 fresh-left begin before words tape m ts =

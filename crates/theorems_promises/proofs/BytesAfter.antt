@@ -4,13 +4,11 @@ use mathlib.Core.Path.{◌≡◌}
 use mathlib.Core.List.{List, ◌++◌}
 use Prim.Native.Nat.{ℕ, ◌≤◌}
 use lib.ListN.{length, drop}
+use Rattle.std.specs.Prelude.{Ok, Err}
 use Rattle.table.specs.Words.{table_of}
-use Rattle.refusal.specs.declared.Answer.{Answer}
-use Rattle.refusal.specs.declared.Answer.TheVariants as A
 use Rattle.refusal.specs.declared.Side.{Side}
 use Rattle.refusal.specs.declared.Refusal.{Refusal}
-use Rattle.refusal.specs.declared.Verdict.TheVariants as W
-use Rattle.refusal.specs.Refusal.{answer_written}
+use Rattle.refusal.specs.Refusal.{Answer, at_side, answer_written}
 use Rattle.record.specs.declared.request.Request.{Request}
 use Rattle.record.specs.Fields.{AllBytes}
 use Rattle.record.specs.Writing.{bytes_of}
@@ -30,13 +28,13 @@ use Rattle.theorems_promises.proofs.BytesLeft.{accepted-left, refused_left, call
 module _ (q : Request) (words bytes : List ℕ) (r : Answer) (words' bytes' : List ℕ) (h : Call q words bytes r words' bytes') where
   -- accepted: its records stand first, Done gives the number of their bytes, "later bytes stay"
   pub accepted-bytes :
-      verdict q (table_of words) (length bytes) ≡ W.Accepted
+      verdict q (table_of words) (length bytes) ≡ Ok tt
       → let answers = bytes_of (act_of q (table_of words)).said in
-      (r ≡ A.Done (length answers)) × (bytes' ≡ answers ++ drop (length answers) bytes)
+      (r ≡ Ok (length answers)) × (bytes' ≡ answers ++ drop (length answers) bytes)
   accepted-bytes e = accepted-left q words bytes r words' bytes' e h
 
   -- refused: "Each refusal returns its number and the table as given, loads nothing, writes nothing."
-  pub refused_bytes : (n : Refusal) (s : Side) → verdict q (table_of words) (length bytes) ≡ W.Refused n s → (r ≡ A.Refused n s) × (words' ≡ words) × (bytes' ≡ bytes)
+  pub refused_bytes : (n : Refusal) (s : Side) → verdict q (table_of words) (length bytes) ≡ Err (at_side n s) → (r ≡ Err (at_side n s)) × (words' ≡ words) × (bytes' ≡ bytes)
   refused_bytes n s e = refused_left q words bytes r words' bytes' n s e h
 
   -- both in one: a refused request says nothing

@@ -5,15 +5,12 @@ use Prim.Native.Nat.{ℕ, ◌≤◌}
 use native.Mathlib.Nat.{zero-add}
 use native.Mathlib.Omega.{arith}
 use lib.ListN.{length, drop}
+use Rattle.std.specs.Prelude.{Ok, Err}
 use Rattle.table.specs.Words.{table_of}
 use Rattle.table.proofs.WordsOfSlots.{slots_length}
-use Rattle.refusal.specs.declared.Answer.{Answer}
-use Rattle.refusal.specs.declared.Answer.TheVariants as A
 use Rattle.refusal.specs.declared.Side.{Side}
 use Rattle.refusal.specs.declared.Refusal.{Refusal}
-use Rattle.refusal.specs.declared.Verdict.{Verdict}
-use Rattle.refusal.specs.declared.Verdict.TheVariants as W
-use Rattle.refusal.specs.Refusal.{number_of, side_number, answer_number, answer_side, answer_written}
+use Rattle.refusal.specs.Refusal.{Answer, Verdict, at_side, number_of, side_number, answer_number, answer_side, answer_written}
 use Rattle.refusal.proofs.Numbers.{is_refused}
 use Rattle.record.specs.declared.request.Request.{Request}
 use Rattle.record.specs.declared.answer.Record.{Record}
@@ -57,33 +54,33 @@ pub call_fits : (q : Request) (words bytes : List ℕ) → length (bytes_of (ans
 call_fits q words bytes = (answered_bytes (table_of words) (slots_length words) (length bytes) q).1
 
 module _ (q : Request) (words bytes : List ℕ) (r : Answer) (words' bytes' : List ℕ) where
-  refused_said : (n : Refusal) (s : Side) → verdict q (table_of words) (length bytes) ≡ W.Refused n s → (answered q (length bytes) (table_of words)).said ≡ []
+  refused_said : (n : Refusal) (s : Side) → verdict q (table_of words) (length bytes) ≡ Err (at_side n s) → (answered q (length bytes) (table_of words)).said ≡ []
   unfolding answered skip
   refused_said n s e = rw e
 
   pub accepted-left :
-      verdict q (table_of words) (length bytes) ≡ W.Accepted
+      verdict q (table_of words) (length bytes) ≡ Ok tt
       → Call q words bytes r words' bytes'
       → let answers = bytes_of (act_of q (table_of words)).said in
-      (r ≡ A.Done (length answers)) × (bytes' ≡ answers ++ drop (length answers) bytes)
+      (r ≡ Ok (length answers)) × (bytes' ≡ answers ++ drop (length answers) bytes)
   accepted-left e h =
       let d = done q words bytes words' bytes' r e h in
       let fits = rw (answered_act q (table_of words) (length bytes) e) at (call_fits q words bytes) in
       let l = left (act_of q (table_of words)).said bytes bytes' (answer_written r) fits d.out in
-      (d.answer ∙ ap A.Done l.0, l.1)
+      (d.answer ∙ ap Ok l.0, l.1)
 
-  refused_by : (v : Verdict) (n : Refusal) (s : Side) → v ≡ W.Refused n s → Outcome v (act_of q) 0 words bytes r words' bytes' → (r ≡ A.Refused n s) × (words' ≡ words) × (bytes' ≡ bytes)
+  refused_by : (v : Verdict) (n : Refusal) (s : Side) → v ≡ Err (at_side n s) → Outcome v (act_of q) 0 words bytes r words' bytes' → (r ≡ Err (at_side n s)) × (words' ≡ words) × (bytes' ≡ bytes)
   refused_by v n s e h =
       let o : (answer_number r ≡ number_of n) × (answer_side r ≡ side_number s) × (answer_written r ≡ 0) × (words' ≡ words) × (bytes' ≡ bytes) = rw e at h in
-      (is_refused r n s o.0 o.1, o.3, o.4)
+      (is_refused r (at_side n s) o.0 o.1, o.3, o.4)
 
-  pub refused_left : (n : Refusal) (s : Side) → verdict q (table_of words) (length bytes) ≡ W.Refused n s → Call q words bytes r words' bytes' → (r ≡ A.Refused n s) × (words' ≡ words) × (bytes' ≡ bytes)
+  pub refused_left : (n : Refusal) (s : Side) → verdict q (table_of words) (length bytes) ≡ Err (at_side n s) → Call q words bytes r words' bytes' → (r ≡ Err (at_side n s)) × (words' ≡ words) × (bytes' ≡ bytes)
   refused_left n s e h = refused_by (verdict q (table_of words) (length bytes)) n s e h
 
   left_by : (v : Verdict) → verdict q (table_of words) (length bytes) ≡ v → Call q words bytes r words' bytes' → Left (bytes_of (answered q (length bytes) (table_of words)).said) bytes (answer_written r) bytes'
   unfolding bytes_of
-  left_by W.Accepted e h = let l = accepted-left e h in rw (answered_act q (table_of words) (length bytes) e) (ap answer_written l.0, l.1)
-  left_by (W.Refused n s) e h = let l = refused_left n s e h in rw (refused_said n s e) (ap answer_written l.0, l.2)
+  left_by (Ok u) e h = let l = accepted-left e h in rw (answered_act q (table_of words) (length bytes) e) (ap answer_written l.0, l.1)
+  left_by (Err x) e h = let l = refused_left x.refusal x.side e h in rw (refused_said x.refusal x.side e) (ap answer_written l.0, l.2)
 
   pub call_left : Call q words bytes r words' bytes' → Left (bytes_of (answered q (length bytes) (table_of words)).said) bytes (answer_written r) bytes'
   call_left h = left_by (verdict q (table_of words) (length bytes)) refl h

@@ -10,16 +10,13 @@ use Rattle.table.specs.Table.{Table, at, Undamaged}
 use Rattle.slot.specs.declared.state.State.TheVariants as S
 use Rattle.slot.specs.Slot.{Slot}
 use native.Mathlib.Omega.{arith}
+use Rattle.std.specs.Prelude.{Ok, Err}
 use Rattle.table.specs.Words.{table_of}
 use Rattle.table.proofs.WordsOfSlots.{slots_length}
 use Rattle.table.proofs.Determined.{words_determined}
 use Rattle.table.specs.Making.{fresh}
-use Rattle.refusal.specs.declared.Answer.{Answer}
-use Rattle.refusal.specs.declared.Answer.TheVariants.{Done}
 use Rattle.refusal.specs.declared.Refusal.TheVariants.{BadBegin}
-use Rattle.refusal.specs.declared.Verdict.{Verdict}
-use Rattle.refusal.specs.declared.Verdict.TheVariants as W
-use Rattle.refusal.specs.Refusal.{number_of, answer_number, answer_side, answer_written}
+use Rattle.refusal.specs.Refusal.{Answer, Verdict, number_of, answer_number, answer_side, answer_written}
 use Rattle.refusal.proofs.Numbers.{is_done, same_answer}
 use Rattle.record.specs.declared.request.Request.{Request}
 use Rattle.rules.specs.Act.{Act, World, world_of, run}
@@ -43,7 +40,7 @@ same_words words words' l l' e s =
 
 -- two answers that were done, with as many bytes written
 same_done : (r r' : Answer) → answer_number r ≡ 0 → answer_number r' ≡ 0 → answer_written r ≡ answer_written r' → r ≡ r'
-same_done r r' e e' w = is_done r e ∙ ap Done w ∙ sym (is_done r' e')
+same_done r r' e e' w = is_done r e ∙ ap Ok w ∙ sym (is_done r' e')
 
 -- ---- making
 
@@ -71,14 +68,14 @@ made-once false before b r r' after after' l l' h h' = (same_answer r r' (h.0 �
 module _ (act : Act) (pos : ℕ) (words bytes : List ℕ) (r r' : Answer) (words₁ words₂ bytes₁ bytes₂ : List ℕ) where
   outcome-once :
       (v : Verdict)
-      → (v ≡ W.Accepted → table_of words₁ ≡ (act (table_of words)).table → table_of words₁ ≡ table_of words₂ → words₁ ≡ words₂)
+      → (v ≡ Ok tt → table_of words₁ ≡ (act (table_of words)).table → table_of words₁ ≡ table_of words₂ → words₁ ≡ words₂)
       → Outcome v act pos words bytes r words₁ bytes₁
       → Outcome v act pos words bytes r' words₂ bytes₂
       → (r ≡ r') × (words₁ ≡ words₂) × (bytes₁ ≡ bytes₂)
   unfolding run
-  outcome-once (W.Refused n s) same h k =
+  outcome-once (Err e) same h k =
       (same_answer r r' (h.0 ∙ sym k.0) (h.1 ∙ sym k.1) (h.2 ∙ sym k.2), h.3 ∙ sym k.3, h.4 ∙ sym k.4)
-  outcome-once W.Accepted same h k =
+  outcome-once (Ok u) same h k =
       let e : world_of words₁ bytes₁ (answer_written r) ≡ world_of words₂ bytes₂ (answer_written r') = h.1 ∙ sym k.1 in
       (same_done r r' h.0 k.0 (ap (λ (w : World). w.out.pos) e), same refl (ap (λ (w : World). w.table) h.1) (ap (λ (w : World). w.table) e), ap (λ (w : World). w.out.buf) e)
 
@@ -92,7 +89,7 @@ pub call-determined :
 call-determined q words bytes r r' words₁ words₂ bytes₁ bytes₂ l₁ l₂ h k =
     outcome-once (act_of q) 0 words bytes r r' words₁ words₂ bytes₁ bytes₂ (verdict q (table_of words) (length bytes)) same h k
   where
-    same : verdict q (table_of words) (length bytes) ≡ W.Accepted → table_of words₁ ≡ (act_of q (table_of words)).table → table_of words₁ ≡ table_of words₂ → words₁ ≡ words₂
+    same : verdict q (table_of words) (length bytes) ≡ Ok tt → table_of words₁ ≡ (act_of q (table_of words)).table → table_of words₁ ≡ table_of words₂ → words₁ ≡ words₂
     same a d e = same_words words₁ words₂ l₁ l₂ e (rw d (act_sound q words (length bytes) a))
 
 -- ---- the run

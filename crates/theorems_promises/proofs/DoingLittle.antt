@@ -5,21 +5,19 @@ use mathlib.Core.List.{List}
 use Prim.Native.Nat.{ℕ}
 use native.Mathlib.Omega.{arith}
 use lib.ListN.{length}
+use Rattle.std.specs.Prelude.{None, Ok, Err}
 use Rattle.slot.specs.declared.state.State.{State}
 use Rattle.slot.specs.declared.state.State.TheVariants as S
 use Rattle.slot.specs.Slot.{empty_slot}
 use Rattle.table.specs.Table.{Table, at, put}
 use Rattle.table.specs.Words.{table_of}
 use Rattle.table.specs.Making.{fresh}
-use Rattle.refusal.specs.declared.Answer.{Answer}
-use Rattle.refusal.specs.declared.Answer.TheVariants as A
 use Rattle.refusal.specs.declared.Side.{Side}
 use Rattle.refusal.specs.declared.Side.TheVariants.{First, Second}
 use Rattle.refusal.specs.declared.Refusal.{Refusal}
 use Rattle.refusal.specs.declared.Refusal.TheVariants.{NoSuchNode}
-use Rattle.refusal.specs.declared.Verdict.TheVariants as W
 use Rattle.record.specs.declared.request.Request.{Request}
-use Rattle.record.specs.Kinds.{layout_of}
+use Rattle.record.specs.Kinds.{kind_of}
 use Rattle.record.specs.Records.{request_bytes, answer_bytes}
 use Rattle.record.specs.Reading as reading
 use Rattle.record.specs.Writing.{out_of, placed, written, write_all}
@@ -33,12 +31,11 @@ use Rattle.rules.specs.Fault.{fault_at, first_fault}
 use Rattle.rules.specs.Script.{meet, join}
 use Rattle.rules.proofs.Script.{all_rules}
 use Rattle.rules.specs.Partner.{paired_within}
-use Rattle.outcome.specs.declared.partner.Partner.TheVariants as P
 use Rattle.outcome.specs.Call.{Call}
 use Rattle.outcome.specs.Partner.{partner_of}
 use Rattle.outcome.specs.PartnerInNumbers.{partner_kind}
 use Rattle.outcome.specs.FaultInNumbers.{fault_slot}
-use Rattle.refusal.specs.Refusal.{answer_side, answer_written}
+use Rattle.refusal.specs.Refusal.{Answer, at_side, answer_side, answer_written}
 use Rattle.theorems_promises.specs.LazyPorts.{room, Fresh, tape}
 use Rattle.theorems_promises.proofs.Accepted.{done}
 use Rattle.theorems_promises.proofs.BytesLeft.{refused_left}
@@ -62,13 +59,13 @@ length-room = refl
 -- ---- what the promise of an accepted request comes to
 
 abbrev Accepts : Request → Type 0
-Accepts q = verdict q (fresh 128) 4200 ≡ W.Accepted
+Accepts q = verdict q (fresh 128) 4200 ≡ Ok tt
 
 module _ (q : Request) (words words' bytes' : List ℕ) (r : Answer) (made : Fresh words) (a : Accepts q) (h : Call q words room r words' bytes') where
-  accepted : verdict q (table_of words) (length room) ≡ W.Accepted
+  accepted : verdict q (table_of words) (length room) ≡ Ok tt
   accepted = rw (made, length-room) a
 
-  is_done : r ≡ A.Done (answer_written r)
+  is_done : r ≡ Ok (answer_written r)
   is_done = (done q words room words' bytes' r accepted h).answer
 
   new_table : table_of words' ≡ (act_of q (fresh 128)).table
@@ -95,7 +92,7 @@ second_stay_0 : staying 0 (act_of (join 2 3) (fresh 128)).table ≡ 0
 unfolding all_rules staying
 second_stay_0 = refl
 
-refused_not_done : (n : Refusal) (s : Side) (k : ℕ) → ¬ (A.Refused n s ≡ A.Done k)
+refused_not_done : (n : Refusal) (s : Side) (k : ℕ) → ¬ (Err (at_side n s) ≡ Ok k)
 refused_not_done n s k e = let z : ◌≡◌ {A = ℕ} 0 1 = cc in absurd (omega arith)
 
 one_not_zero : ¬ (◌≡◌ {A = ℕ} 1 0)
@@ -121,7 +118,7 @@ fresh_world = record { table = fresh 128; out = out_of room 0 }
 
 -- both records are handled, and 48 bytes written
 both_handled : (handled_by (run_tape 10 fresh_world tape) ≡ 2) × (written_by (run_tape 10 fresh_world tape) ≡ 48)
-unfolding all_rules tape room fresh_world request_bytes answer_bytes layout_of reading.read placed written write_all
+unfolding all_rules tape room fresh_world request_bytes answer_bytes kind_of reading.read placed written write_all
 both_handled = (refl, refl)
 
 module _ (words words' bytes' rest : List ℕ) (stop refusal handled written : ℕ) (made : Fresh words) (h : Tape 10 words room tape stop refusal handled written rest words' bytes') where
@@ -138,20 +135,20 @@ module _ (words words' bytes' rest : List ℕ) (stop refusal handled written : �
 -- ---- the lazy ports
 
 -- one that refuses everything, whatever the number, the side and the rest
-pub refuses_everything : (words words' bytes' : List ℕ) (n : Refusal) (s : Side) → Fresh words → ¬ Call (join 0 1) words room (A.Refused n s) words' bytes'
+pub refuses_everything : (words words' bytes' : List ℕ) (n : Refusal) (s : Side) → Fresh words → ¬ Call (join 0 1) words room (Err (at_side n s)) words' bytes'
 refuses_everything words words' bytes' n s made h =
-    refused_not_done n s (answer_written (A.Refused n s)) (is_done (join 0 1) words words' bytes' (A.Refused n s) made first_accepted h)
+    refused_not_done n s (answer_written (Err (at_side n s))) (is_done (join 0 1) words words' bytes' (Err (at_side n s)) made first_accepted h)
 
 -- one that names side 1 whatever fails, with any number
-names_second : verdict (meet 0 256 0 1 10 11) (fresh 128) 4200 ≡ W.Refused NoSuchNode Second
+names_second : verdict (meet 0 256 0 1 10 11) (fresh 128) 4200 ≡ Err (at_side NoSuchNode Second)
 unfolding all_rules
 names_second = refl
 
-pub always_side_1 : (words words' bytes' : List ℕ) (n : Refusal) → Fresh words → ¬ Call (meet 0 256 0 1 10 11) words room (A.Refused n First) words' bytes'
+pub always_side_1 : (words words' bytes' : List ℕ) (n : Refusal) → Fresh words → ¬ Call (meet 0 256 0 1 10 11) words room (Err (at_side n First)) words' bytes'
 always_side_1 words words' bytes' n made h =
     let q : Request = meet 0 256 0 1 10 11 in
-    let e : verdict q (table_of words) (length room) ≡ W.Refused NoSuchNode Second = rw (made, length-room) names_second in
-    let same = (refused_left q words room (A.Refused n First) words' bytes' NoSuchNode Second e h).0 in
+    let e : verdict q (table_of words) (length room) ≡ Err (at_side NoSuchNode Second) = rw (made, length-room) names_second in
+    let same = (refused_left q words room (Err (at_side n First)) words' bytes' NoSuchNode Second e h).0 in
     let sides = ap answer_side same in
     absurd (omega arith)
 
@@ -176,7 +173,7 @@ pair_told : partner_kind (partner_of (act_of (join 0 1) (fresh 128)).table 0) �
 unfolding all_rules paired_within
 pair_told = refl
 
-pub always_nobody : (words : List ℕ) → table_of words ≡ (act_of (join 0 1) (fresh 128)).table → ¬ (P.Nobody ≡ partner_of (table_of words) 0)
+pub always_nobody : (words : List ℕ) → table_of words ≡ (act_of (join 0 1) (fresh 128)).table → ¬ (Ok None ≡ partner_of (table_of words) 0)
 always_nobody words made h =
     let e = ap partner_kind (h ∙ ap (λ (t : Table). partner_of t 0) made) ∙ pair_told in absurd (omega arith)
 

@@ -3,8 +3,8 @@ use mathlib.Core.Path.{◌≡◌}
 use mathlib.Core.List.{List}
 use Prim.Native.Nat.{ℕ}
 use lib.ListN.{length}
+use Rattle.std.specs.Prelude.{Ok}
 use Rattle.table.specs.Words.{table_of}
-use Rattle.refusal.specs.declared.Answer.TheVariants as A
 use Rattle.refusal.specs.Refusal.{answer_written}
 use Rattle.record.specs.declared.request.Request.{Request}
 use Rattle.theorems_promises.specs.InOrder.{Independent, InOrder}
@@ -15,10 +15,10 @@ module _ (words : List ℕ) (r q : Request) (bytes-r bytes-q : List ℕ)
     (x : InOrder r q words bytes-r bytes-q) (y : InOrder q r words bytes-q bytes-r) where
   -- all four calls are done, none is refused
   pub none-refused :
-      (x.answer_1 ≡ A.Done (answer_written x.answer_1))
-      × (x.answer_2 ≡ A.Done (answer_written x.answer_2))
-      × (y.answer_1 ≡ A.Done (answer_written y.answer_1))
-      × (y.answer_2 ≡ A.Done (answer_written y.answer_2))
+      (x.answer_1 ≡ Ok (answer_written x.answer_1))
+      × (x.answer_2 ≡ Ok (answer_written x.answer_2))
+      × (y.answer_1 ≡ Ok (answer_written y.answer_1))
+      × (y.answer_2 ≡ Ok (answer_written y.answer_2))
   none-refused = ((r_done words r q bytes-r bytes-q i x y).answer, (q_done_second words r q bytes-r bytes-q i x y).answer, (q_done words r q bytes-r bytes-q i x y).answer, (r_done_second words r q bytes-r bytes-q i x y).answer)
 
   -- the same words in the end

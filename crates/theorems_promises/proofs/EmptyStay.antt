@@ -5,10 +5,10 @@ use mathlib.Core.Bool.{true}
 use Prim.Native.Nat.{ℕ, ◌≤◌, ◌<◌}
 use native.Mathlib.Omega.{arith}
 use lib.Dec.{T}
+use Rattle.std.specs.Prelude.{Ok}
 use Rattle.slot.specs.Number.{none}
 use Rattle.table.specs.Table.{Table, at}
 use Rattle.table.specs.Nodes.{present}
-use Rattle.refusal.specs.declared.Verdict.TheVariants as W
 use Rattle.record.specs.declared.request.Conflict.{Conflict}
 use Rattle.record.specs.declared.request.VirtualConflict.{VirtualConflict}
 use Rattle.record.specs.declared.request.Expansion.{Expansion}
@@ -63,7 +63,7 @@ module _ (q : Request) (t : Table) (w : Whole t) where
   alike_in_reach = alike_itself (InReach q t) t w.full reach_closed
 
 module _ (t : Table) (room : ℕ) (w : Whole t) where
-  pub conflict_reaches : (c : Conflict) → verdict (Q.Conflict c) t room ≡ W.Accepted → Moved (InReach (Q.Conflict c) t) true t t (conflict c t).table (conflict c t).table
+  pub conflict_reaches : (c : Conflict) → verdict (Q.Conflict c) t room ≡ Ok tt → Moved (InReach (Q.Conflict c) t) true t t (conflict c t).table (conflict c t).table
   conflict_reaches c ok =
       let q = Q.Conflict c in
       (conflict-acted (InReach q t) true (nothing_in q t w) t t (alike_in_reach q t w) w c (named (inl refl)) (named (inr (inl refl))) (acceptable t room c ok).two
@@ -76,7 +76,7 @@ module _ (t : Table) (room : ℕ) (w : Whole t) where
   held_present : (b x n : ℕ) → InnerChild t b x × DefectInside t x n → T (present t n)
   held_present b x n h = inside-present t w.full w.rest x n (inner-present (at t x).state h.0.0) h.1.inside
 
-  pub expansion_reaches : (e : Expansion) → verdict (Q.Expansion e) t room ≡ W.Accepted → Moved (InReach (Q.Expansion e) t) true t t (expansion e.node.0 t).table (expansion e.node.0 t).table
+  pub expansion_reaches : (e : Expansion) → verdict (Q.Expansion e) t room ≡ Ok tt → Moved (InReach (Q.Expansion e) t) true t t (expansion e.node.0 t).table (expansion e.node.0 t).table
   expansion_reaches e ok =
       let q = Q.Expansion e in
       let b = e.node.0 in

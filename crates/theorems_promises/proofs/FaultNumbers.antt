@@ -5,7 +5,7 @@ use lib.Dec.{T}
 use Rattle.table.specs.Table.{Table}
 use Rattle.rules.specs.declared.fault.Rule.{Rule}
 use Rattle.rules.specs.declared.fault.Fault.{Fault}
-use Rattle.rules.specs.declared.fault.Fault.TheVariants.{Nowhere, At}
+use Rattle.std.specs.Prelude.{Option, None, Some}
 use Rattle.rules.specs.Sound.{sound}
 use Rattle.rules.specs.Fault.{rule_number, no_fault, fault_at, first_fault}
 use Rattle.outcome.specs.FaultInNumbers.{fault_rule, fault_slot}
@@ -13,13 +13,13 @@ use Rattle.theorems_soundness.specs.Faults.{FailsFirst}
 use Rattle.theorems_soundness.proofs.FaultLaws.{one_number, some_number}
 use Rattle.theorems_soundness.proofs.FirstFault.{sound_exactly, named_exactly}
 
-no_rule : (f : Fault) → fault_rule f ≡ 0 → f ≡ no_fault
-no_rule Nowhere e = refl
-no_rule (At r n) e = let l = some_number r in absurd (omega arith)
+no_rule : (f : Option Fault) → fault_rule f ≡ 0 → f ≡ no_fault
+no_rule None e = refl
+no_rule (Some f) e = let l = some_number f.rule in absurd (omega arith)
 
-of_rule : (f : Fault) (r : Rule) → fault_rule f ≡ rule_number r → f ≡ fault_at r (fault_slot f)
-of_rule Nowhere r e = let l = some_number r in absurd (omega arith)
-of_rule (At q n) r e = ap (λ (p : Rule). At p n) (one_number q r e)
+of_rule : (f : Option Fault) (r : Rule) → fault_rule f ≡ rule_number r → f ≡ fault_at r (fault_slot f)
+of_rule None r e = let l = some_number r in absurd (omega arith)
+of_rule (Some f) r e = ap (λ (p : Rule). fault_at p f.slot.0) (one_number f.rule r e)
 
 module _ (t : Table) where
   pub rule_0_sound : fault_rule (first_fault t) ≡ 0 → T (sound t)

@@ -4,7 +4,7 @@ use mathlib.Core.List.{List, [], ◌∷◌, ◌++◌}
 use Rattle.table.specs.Making.{fresh}
 use Rattle.record.specs.declared.request.Request.{Request}
 use Rattle.record.specs.declared.request.Request.TheVariants as Q
-use Rattle.record.specs.Kinds.{layout_of}
+use Rattle.record.specs.Kinds.{kind_of}
 use Rattle.record.specs.Records.{request_bytes, answer_bytes}
 use Rattle.record.specs.Reading as reading
 use Rattle.record.specs.Writing.{bytes_of}
@@ -24,15 +24,15 @@ answers_printed = refl
 
 -- both requests are read from their tape; the first alone; none behind a byte that is no record
 both_read : requests_of 2 (tape_of both) ≡ both
-unfolding requests_of tape_of both request_bytes layout_of reading.read
+unfolding requests_of tape_of both request_bytes kind_of reading.read
 both_read = refl
 
 first_read_alone : requests_of 1 (tape_of both) ≡ meet 0 1 0 1 10 11 ∷ []
-unfolding requests_of tape_of both request_bytes layout_of reading.read
+unfolding requests_of tape_of both request_bytes kind_of reading.read
 first_read_alone = refl
 
 bad-ends : requests_of 3 (tape_of both ++ 7 ∷ []) ≡ both
-unfolding requests_of tape_of both request_bytes layout_of reading.read
+unfolding requests_of tape_of both request_bytes kind_of reading.read
 bad-ends = refl
 
 -- a refused request yields only its end record, and the next is answered

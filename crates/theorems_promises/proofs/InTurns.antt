@@ -6,9 +6,9 @@ use Prim.Native.Nat.{ℕ, suc, ◌+◌, ◌*◌, ◌≤◌, ◌<◌}
 use native.Mathlib.Omega.{arith}
 use lib.Dec.{T}
 use lib.ListN.{length}
+use Rattle.std.specs.Prelude.{Ok}
 use Rattle.table.specs.Words.{table_of}
 use Rattle.table.specs.Making.{fresh, Made}
-use Rattle.refusal.specs.declared.Answer.TheVariants as A
 use Rattle.refusal.specs.declared.Side.TheVariants.{Neither}
 use Rattle.refusal.specs.declared.Refusal.TheVariants.{BadRecord}
 use Rattle.refusal.specs.Refusal.{number_of}
@@ -38,7 +38,7 @@ pub turns_end : (take-turn : (words tape : List ℕ) → OneTurn words tape) (wo
 turns_end take-turn words tape s = ending-by take-turn (suc (length tape)) words tape (omega arith) s
 
 -- turns on a table that was made, with any begin that making accepts; the program's is 128 (`usual_begin`)
-module _ (begin : ℕ) (before words tape : List ℕ) (made : Made before begin (A.Done 0) words) (ts : Turns words tape) where
+module _ (begin : ℕ) (before words tape : List ℕ) (made : Made before begin (Ok 0) words) (ts : Turns words tape) where
   -- the last turn read the tape to its end, and the rest is empty; or it stopped at a bad record, with which the rest begins
   pub read_or_bad : RestBy (last_end ts) (last_rest ts)
   read_or_bad = (fresh-left begin before words tape made ts).over

@@ -6,12 +6,10 @@ use Prim.Native.Nat.{ℕ}
 use native.Mathlib.Omega.{arith}
 use lib.Dec.{T}
 use lib.ListN.{length, drop}
+use Rattle.std.specs.Prelude.{Ok, Err}
 use Rattle.table.specs.Words.{table_of}
 use Rattle.table.specs.Making.{begin_fits}
-use Rattle.refusal.specs.declared.Answer.{Answer}
-use Rattle.refusal.specs.declared.Verdict.{Verdict}
-use Rattle.refusal.specs.declared.Verdict.TheVariants as W
-use Rattle.refusal.specs.Refusal.{answer_number}
+use Rattle.refusal.specs.Refusal.{Answer, Verdict, answer_number}
 use Rattle.record.specs.declared.request.Request.{Request}
 use Rattle.record.specs.Writing.{bytes_of}
 use Rattle.rules.specs.Act.{world_of}
@@ -49,8 +47,8 @@ not_made_same before b number after d h =
 -- ---- requests
 
 number_is : (v : Verdict) (written : ℕ) → answer_number (answer_of v written) ≡ verdict_number v
-number_is W.Accepted written = refl
-number_is (W.Refused n s) written = refl
+number_is (Ok u) written = refl
+number_is (Err e) written = refl
 
 module _ (q : Request) (words bytes : List ℕ) (number written : ℕ) (words' bytes' : List ℕ) where
   abbrev v : Verdict

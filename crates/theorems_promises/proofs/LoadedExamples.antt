@@ -7,7 +7,7 @@ use Rattle.lists.specs.Choice.{pick}
 use Rattle.table.specs.Making.{fresh}
 use Rattle.record.specs.declared.request.Request.{Request}
 use Rattle.record.specs.declared.request.Request.TheVariants as Q
-use Rattle.record.specs.Kinds.{layout_of}
+use Rattle.record.specs.Kinds.{kind_of}
 use Rattle.record.specs.Records.{answer_bytes}
 use Rattle.record.specs.Writing.{out_of, placed, written, write_all}
 use Rattle.rules.specs.Act.{World}
@@ -55,9 +55,9 @@ loaded_by_all : List Request → List ℕ
 loaded_by_all qs = shown (loaded_by qs world no_events)
 
 since_the_start : loaded_by_all (join 0 1 ∷ join 2 2 ∷ border 3 3 13 99 ∷ []) ≡ 0 ∷ 1 ∷ 3 ∷ []
-unfolding all_rules among shown loaded_by_all world answer_bytes layout_of placed written write_all
+unfolding all_rules among shown loaded_by_all world answer_bytes kind_of placed written write_all
 since_the_start = refl
 
 since_the_reset : loaded_by_all (join 0 1 ∷ Q.Reset ∷ border 2 2 12 99 ∷ []) ≡ 2 ∷ []
-unfolding all_rules among shown loaded_by_all world answer_bytes layout_of placed written write_all
+unfolding all_rules among shown loaded_by_all world answer_bytes kind_of placed written write_all
 since_the_reset = refl

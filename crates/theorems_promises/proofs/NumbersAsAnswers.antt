@@ -5,16 +5,13 @@ use mathlib.Core.Bool.{Bool, true, false}
 use mathlib.Core.List.{List}
 use Prim.Native.Nat.{ℕ}
 use lib.ListN.{length}
+use Rattle.std.specs.Prelude.{Ok, Err}
 use Rattle.lists.specs.Choice.{pick}
 use Rattle.table.specs.Words.{table_of}
 use Rattle.table.specs.Making.{fresh}
-use Rattle.refusal.specs.declared.Answer.{Answer}
-use Rattle.refusal.specs.declared.Answer.TheVariants as A
 use Rattle.refusal.specs.declared.Side.TheVariants.{Neither}
 use Rattle.refusal.specs.declared.Refusal.TheVariants.{BadBegin}
-use Rattle.refusal.specs.declared.Verdict.{Verdict}
-use Rattle.refusal.specs.declared.Verdict.TheVariants as W
-use Rattle.refusal.specs.Refusal.{number_of, answer_number, answer_written}
+use Rattle.refusal.specs.Refusal.{Answer, Verdict, at_side, number_of, answer_number, answer_written}
 use Rattle.rules.specs.Act.{Act}
 use Rattle.rules.specs.Run.{Ran, unsound, ran}
 use Rattle.outcome.specs.Handled.{Outcome}
@@ -25,28 +22,28 @@ use Rattle.theorems_promises.proofs.Determining.{MadeBy}
 -- ---- requests
 
 abbrev pub answer_of : Verdict → ℕ → Answer
-answer_of (W.Refused n s) written = A.Refused n s
-answer_of W.Accepted written = A.Done written
+answer_of (Err e) written = Err e
+answer_of (Ok u) written = Ok written
 
 pub answered-by :
     (v : Verdict) (act : Act) (words bytes : List ℕ) (number written : ℕ) (words' bytes' : List ℕ)
     → Numbered v act words bytes number written words' bytes'
     → Outcome v act 0 words bytes (answer_of v written) words' bytes'
-answered-by (W.Refused n s) act words bytes number written words' bytes' h = (refl, refl, refl, h.2, h.3)
-answered-by W.Accepted act words bytes number written words' bytes' h = (refl, h.1)
+answered-by (Err e) act words bytes number written words' bytes' h = (refl, refl, refl, h.2, h.3)
+answered-by (Ok u) act words bytes number written words' bytes' h = (refl, h.1)
 
 pub number_by :
     (v : Verdict) (act : Act) (words bytes : List ℕ) (number written : ℕ) (words' bytes' : List ℕ)
     → Numbered v act words bytes number written words' bytes'
     → (number ≡ answer_number (answer_of v written)) × (written ≡ answer_written (answer_of v written))
-number_by (W.Refused n s) act words bytes number written words' bytes' h = (h.0, h.1)
-number_by W.Accepted act words bytes number written words' bytes' h = (h.0, refl)
+number_by (Err e) act words bytes number written words' bytes' h = (h.0, h.1)
+number_by (Ok u) act words bytes number written words' bytes' h = (h.0, refl)
 
 -- ---- making
 
 abbrev pub made_answer : Bool → Answer
-made_answer true = A.Done 0
-made_answer false = A.Refused BadBegin Neither
+made_answer true = Ok 0
+made_answer false = Err (at_side BadBegin Neither)
 
 pub made_by :
     (fits : Bool) (before after : List ℕ) (b number : ℕ)

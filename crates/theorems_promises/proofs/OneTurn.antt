@@ -15,7 +15,9 @@ use Rattle.record.specs.Writing.{Out, out_of, write_all, bytes_of}
 use Rattle.record.proofs.Written.{write_all_append, write_all-room, length-placed}
 use Rattle.rules.specs.Act.{World, world_of, run}
 use Rattle.rules.specs.Sound.{sound}
-use Rattle.rules.specs.Run.{Stop, tape_empty, allowance_used, output_full, bad_record, Progress, Ended, room, Ran, ran, run_from, began, run_tape, Between, requests_of, run_room}
+use Rattle.rules.specs.declared.stop.Stop.{Stop}
+use Rattle.rules.specs.declared.stop.Stop.TheVariants as S
+use Rattle.rules.specs.Run.{Progress, Ended, room, Ran, ran, run_from, began, run_tape, Between, requests_of, run_room}
 use Rattle.rules.proofs.RunCounts.{run_counts}
 use Rattle.theorems_soundness.proofs.Reflect.{test_true}
 use Rattle.theorems_soundness.proofs.Wholes.{to_whole}
@@ -57,10 +59,10 @@ last_size NotSound = omega arith
 -- a bad record leaves room for the end record
 last_fits : (s : Stop) (p : Progress) → StoppedFor s p → length (bytes_of (last_records (end_of s))) ≤ room p.world
 unfolding bytes_of
-last_fits tape_empty p h = omega arith
-last_fits allowance_used p h = omega arith
-last_fits output_full p h = omega arith
-last_fits bad_record p h = omega (arith, last_size BadTape, h.2)
+last_fits S.TapeEmpty p h = omega arith
+last_fits S.AllowanceUsed p h = omega arith
+last_fits S.OutputFull p h = omega arith
+last_fits S.BadRecord p h = omega (arith, last_size BadTape, h.2)
 
 -- what is left of the tape when a turn is over
 abbrev pub RestOr : TurnEnd → ℕ → List ℕ → Type 0
@@ -70,10 +72,10 @@ RestOr GoesOn handled rest = 0 < handled
 RestOr NotSound handled rest = ⊥
 
 by_stop : (s : Stop) (p : Progress) → StoppedFor s p → (end_of s ≡ GoesOn → 0 < p.handled) → RestOr (end_of s) p.handled p.rest
-by_stop tape_empty p h k = h
-by_stop allowance_used p h k = k refl
-by_stop output_full p h k = k refl
-by_stop bad_record p h k = (h.0, h.1)
+by_stop S.TapeEmpty p h k = h
+by_stop S.AllowanceUsed p h k = k refl
+by_stop S.OutputFull p h k = k refl
+by_stop S.BadRecord p h k = (h.0, h.1)
 
 -- ---- the turn
 

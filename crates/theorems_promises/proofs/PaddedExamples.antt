@@ -4,7 +4,7 @@ use mathlib.Core.List.{List, [], ◌∷◌, ◌++◌}
 use Prim.Native.Nat.{ℕ}
 use Rattle.record.specs.declared.request.Request.{Request}
 use Rattle.record.specs.declared.request.Request.TheVariants as Q
-use Rattle.record.specs.Kinds.{layout_of}
+use Rattle.record.specs.Kinds.{kind_of}
 use Rattle.record.specs.Records.{expansion_from, request_bytes, answer_bytes}
 use Rattle.record.specs.Padding.{padded_request}
 use Rattle.record.specs.Reading as reading
@@ -31,16 +31,16 @@ answers = 6 ∷ 0 ∷ 19 ∷ 0 ∷ 11 ∷ 0 ∷ 0 ∷ 0 ∷ 6 ∷ 0 ∷ 19 ∷ 0
 
 -- three bytes of a record stay as they are
 without_padding : (unpadded_tape mixed ≡ exact) × (unpadded_tape exact ≡ exact) × (unpadded_tape (mixed ++ 2 ∷ 0 ∷ 5 ∷ []) ≡ exact ++ 2 ∷ 0 ∷ 5 ∷ [])
-unfolding mixed exact unpadded_tape tape_of requests_of behind_of request_bytes padded_request layout_of reading.read
+unfolding mixed exact unpadded_tape tape_of requests_of behind_of request_bytes padded_request kind_of reading.read
 without_padding = (refl, refl, refl)
 
 same_answers : (program_writes 128 mixed ≡ answers) × (program_writes 128 exact ≡ answers)
-unfolding all_rules program_writes mixed exact answers requests_of behind_of answered_and_ended in_arow bytes_of request_bytes padded_request answer_bytes layout_of reading.read
+unfolding all_rules program_writes mixed exact answers requests_of behind_of answered_and_ended in_arow bytes_of request_bytes padded_request answer_bytes kind_of reading.read
 same_answers = (refl, refl)
 
 -- behind an expansion of length 4 two zeros are a record cut short, and a padding of 1 is bad: an end record 12
 zeros-alone :
     (program_writes 128 (4 ∷ 0 ∷ 3 ∷ 0 ∷ 128 ∷ 0 ∷ 0 ∷ 0 ∷ []) ≡ 6 ∷ 0 ∷ 19 ∷ 0 ∷ 11 ∷ 0 ∷ 0 ∷ 0 ∷ 6 ∷ 0 ∷ 19 ∷ 0 ∷ 12 ∷ 0 ∷ 0 ∷ 0 ∷ [])
     × (program_writes 128 (6 ∷ 0 ∷ 3 ∷ 0 ∷ 128 ∷ 0 ∷ 0 ∷ 1 ∷ 2 ∷ 0 ∷ 5 ∷ 0 ∷ []) ≡ 6 ∷ 0 ∷ 19 ∷ 0 ∷ 12 ∷ 0 ∷ 0 ∷ 0 ∷ [])
-unfolding all_rules program_writes requests_of behind_of answered_and_ended in_arow bytes_of request_bytes answer_bytes layout_of reading.read
+unfolding all_rules program_writes requests_of behind_of answered_and_ended in_arow bytes_of request_bytes answer_bytes kind_of reading.read
 zeros-alone = (refl, refl)

@@ -5,13 +5,13 @@ use mathlib.Core.Bool.{Bool, true, false, not, ◌&&◌, ◌||◌, and-false, or
 use Prim.Native.Nat.{ℕ, ◌<◌}
 use native.Mathlib.Omega.{arith}
 use lib.Dec.{T, ltb}
+use Rattle.std.specs.Prelude.{Ok, Err}
 use Rattle.table.specs.Table.{Table}
 use Rattle.table.specs.Making.{fresh}
 use Rattle.table.specs.Nodes.{is_defect, present, is_present_defect}
 use Rattle.refusal.specs.declared.Side.{Side}
 use Rattle.refusal.specs.declared.Refusal.{Refusal}
-use Rattle.refusal.specs.declared.Verdict.{Verdict}
-use Rattle.refusal.specs.declared.Verdict.TheVariants as W
+use Rattle.refusal.specs.Refusal.{Verdict, at_side}
 use Rattle.record.specs.declared.request.Conflict.{Conflict}
 use Rattle.record.specs.declared.request.VirtualConflict.{VirtualConflict}
 use Rattle.record.specs.declared.request.Expansion.{Expansion}
@@ -92,7 +92,7 @@ module _ (t : Table) (room : ℕ) (w : Whole t) where
         only = empty_still q t u m;
       }
 
-  conflict-loads : (c : Conflict) → verdict (Q.Conflict c) t room ≡ W.Accepted → Loads (Q.Conflict c) t (conflict c t).table
+  conflict-loads : (c : Conflict) → verdict (Q.Conflict c) t room ≡ Ok tt → Loads (Q.Conflict c) t (conflict c t).table
   conflict-loads c ok = loads-by (Q.Conflict c) (conflict c t).table (conflict_reaches t room w c ok) (λ n l h. conflict_lasts n c t h) has
     where
       has : (n : ℕ) → n < t.begin → n ∈ named_for_loading (Q.Conflict c) → Has n (conflict c t).table
@@ -107,7 +107,7 @@ module _ (t : Table) (room : ℕ) (w : Whole t) where
       has n l (inl e) = rw e (virtual_has t w c (rw e at l))
       has n l (inr z) = absurd z
 
-  expansion-loads : (e : Expansion) → verdict (Q.Expansion e) t room ≡ W.Accepted → Loads (Q.Expansion e) t (expansion e.node.0 t).table
+  expansion-loads : (e : Expansion) → verdict (Q.Expansion e) t room ≡ Ok tt → Loads (Q.Expansion e) t (expansion e.node.0 t).table
   expansion-loads e ok =
       let b = (acceptable_expansion t room e ok).blossom in
       loads-by (Q.Expansion e) (expansion e.node.0 t).table (expansion_reaches t room w e ok) (λ n l h. expansion_lasts n e.node.0 (λ z. omega (arith, b)) t h)
@@ -127,7 +127,7 @@ module _ (t : Table) (room : ℕ) (w : Whole t) (n : ℕ) where
   abbrev AsLoaded : Request → Type 0
   AsLoaded q = is_present_defect (answered q room t).table n ≡ loaded_after q room t (is_present_defect t) n
 
-  where_accepted : (q : Request) → verdict q t room ≡ W.Accepted → AsLoaded q
+  where_accepted : (q : Request) → verdict q t room ≡ Ok tt → AsLoaded q
   unfolding answered change list
   where_accepted (Q.Conflict c) a = rw a (loads-present (Q.Conflict c) t (conflict c t).table (conflict-loads t room w c a) n)
   where_accepted (Q.VirtualConflict c) a = rw a (loads-present (Q.VirtualConflict c) t (virtual_conflict c t).table (virtual_loads t room w c) n)
@@ -135,7 +135,7 @@ module _ (t : Table) (room : ℕ) (w : Whole t) (n : ℕ) where
   where_accepted Q.Reset a = rw a (fresh-none t.begin n)
   where_accepted Q.List a = rw a (loads-present Q.List t t (same-loads Q.List t (λ m z. z)) n)
 
-  where_refused : (q : Request) (r : Refusal) (s : Side) → verdict q t room ≡ W.Refused r s → AsLoaded q
+  where_refused : (q : Request) (r : Refusal) (s : Side) → verdict q t room ≡ Err (at_side r s) → AsLoaded q
   unfolding answered skip
   where_refused (Q.Conflict c) r s a = rw a (sym (or-false (is_present_defect t n)))
   where_refused (Q.VirtualConflict c) r s a = rw a (sym (or-false (is_present_defect t n)))
@@ -147,8 +147,8 @@ module _ (t : Table) (room : ℕ) (w : Whole t) (n : ℕ) where
   answered-present q = go (verdict q t room) refl
     where
       go : (v : Verdict) → verdict q t room ≡ v → AsLoaded q
-      go W.Accepted a = where_accepted q a
-      go (W.Refused r s) a = where_refused q r s a
+      go (Ok u) a = where_accepted q a
+      go (Err e) a = where_refused q e.refusal e.side a
 
 pub served-present : (q : Request) (w : World) → Whole w.table → (n : ℕ) → is_present_defect (served q w).table n ≡ loaded_after q (room w) w.table (is_present_defect w.table) n
 unfolding served

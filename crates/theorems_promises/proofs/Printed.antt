@@ -3,10 +3,10 @@
 use mathlib.Core.Path.{◌≡◌, refl, ◌∙◌}
 use mathlib.Core.List.{List, [], ◌∷◌, ◌++◌}
 use Prim.Native.Nat.{ℕ}
+use Rattle.std.specs.Prelude.{Ok}
 use Rattle.table.specs.Making.{Made}
-use Rattle.refusal.specs.declared.Answer.TheVariants as A
 use Rattle.record.specs.declared.request.Request.TheVariants as Q
-use Rattle.record.specs.Kinds.{layout_of}
+use Rattle.record.specs.Kinds.{kind_of}
 use Rattle.record.specs.Records.{request_bytes, answer_bytes}
 use Rattle.record.specs.Reading as reading
 use Rattle.record.specs.Writing.{bytes_of}
@@ -27,8 +27,8 @@ formula-printed :
     (program_writes usual_begin tape ≡ printed)
     × (program_writes usual_begin [] ≡ [])
     × (program_writes usual_begin (tape ++ 7 ∷ []) ≡ printed ++ 0x06 ∷ 0x00 ∷ 0x13 ∷ 0x00 ∷ 0x0C ∷ 0x00 ∷ 0x00 ∷ 0x00 ∷ [])
-unfolding all_rules program_writes tape printed requests_of behind_of answered_and_ended in_arow bytes_of request_bytes answer_bytes layout_of reading.read
+unfolding all_rules program_writes tape printed requests_of behind_of answered_and_ended in_arow bytes_of request_bytes answer_bytes kind_of reading.read
 formula-printed = (refl, refl, refl)
 
-pub program_prints : (before words : List ℕ) → Made before usual_begin (A.Done 0) words → (ts : Turns words tape) → all_written ts ≡ printed
+pub program_prints : (before words : List ℕ) → Made before usual_begin (Ok 0) words → (ts : Turns words tape) → all_written ts ≡ printed
 program_prints before words made ts = written_in_all usual_begin before words tape made ts ∙ formula-printed.0

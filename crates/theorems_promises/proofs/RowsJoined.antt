@@ -5,10 +5,10 @@ use Prim.Native.Nat.{ℕ, zero, suc, ◌+◌, ◌*◌, ◌≤◌}
 use native.Mathlib.Nat.{zero-add, suc-add}
 use native.Mathlib.Omega.{arith}
 use lib.ListN.{length, drop, length-drop}
+use Rattle.std.specs.Prelude.{Err}
 use Rattle.table.specs.Table.{Table}
 use Rattle.refusal.specs.declared.Refusal.{Refusal}
 use Rattle.record.specs.declared.request.Request.{Request}
-use Rattle.record.specs.declared.request.Reading.TheVariants as G
 use Rattle.record.specs.declared.answer.Record.{Record}
 use Rattle.record.specs.Reading as reading
 use Rattle.record.specs.Writing.{bytes_of}
@@ -35,7 +35,7 @@ behind_joined zero m tape rest b = rw (zero-add, b)
 behind_joined (suc n) m tape rest (q, size, r, b) = rw (suc-add, behind_first (n + m) tape q size r) (behind_joined n m (drop size tape) rest b)
 
 -- behind a bad record there is no request, and it stays
-pub none_behind_bad : (n : ℕ) (tape : List ℕ) (m : Refusal) → reading.read tape ≡ G.Refused m → (requests_of n tape ≡ []) × (behind_of n tape ≡ tape)
+pub none_behind_bad : (n : ℕ) (tape : List ℕ) (m : Refusal) → reading.read tape ≡ Err m → (requests_of n tape ≡ []) × (behind_of n tape ≡ tape)
 unfolding requests_of behind_of
 none_behind_bad zero tape m e = (refl, refl)
 none_behind_bad (suc n) tape m e = (rw e, rw e)

@@ -3,12 +3,12 @@ use mathlib.Core.Path.{◌≡◌}
 use mathlib.Core.List.{List, []}
 use Prim.Native.Nat.{ℕ}
 use lib.Dec.{T}
+use Rattle.std.specs.Prelude.{Ok, Err}
 use Rattle.table.specs.Words.{table_of}
 use Rattle.table.specs.Making.{Made}
-use Rattle.refusal.specs.declared.Answer.{Answer}
-use Rattle.refusal.specs.declared.Answer.TheVariants as A
 use Rattle.refusal.specs.declared.Side.{Side}
 use Rattle.refusal.specs.declared.Refusal.{Refusal}
+use Rattle.refusal.specs.Refusal.{Answer, at_side}
 use Rattle.record.specs.declared.request.Request.{Request}
 use Rattle.record.specs.declared.request.Request.TheVariants as Q
 use Rattle.rules.specs.Sound.{sound}
@@ -17,12 +17,12 @@ use Rattle.outcome.specs.Tape.{Tape}
 use Rattle.theorems_promises.proofs.SoundLeft.{making, done_sound, refused_same, either_sound, call_sound, list_same, run_sound}
 
 -- making: after Done the table is sound, whatever words stood there before
-pub made_is_sound : (before : List ℕ) (b n : ℕ) (after : List ℕ) → Made before b (A.Done n) after → T (sound (table_of after))
-made_is_sound before b n after h = done_sound before n after (making before b (A.Done n) after h)
+pub made_is_sound : (before : List ℕ) (b n : ℕ) (after : List ℕ) → Made before b (Ok n) after → T (sound (table_of after))
+made_is_sound before b n after h = done_sound before n after (making before b (Ok n) after h)
 
 -- after a refusal the words are as they were
-pub not_made_is_unchanged : (before : List ℕ) (b : ℕ) (n : Refusal) (s : Side) (after : List ℕ) → Made before b (A.Refused n s) after → after ≡ before
-not_made_is_unchanged before b n s after h = refused_same before n s after (making before b (A.Refused n s) after h)
+pub not_made_is_unchanged : (before : List ℕ) (b : ℕ) (n : Refusal) (s : Side) (after : List ℕ) → Made before b (Err (at_side n s)) after → after ≡ before
+not_made_is_unchanged before b n s after h = refused_same before n s after (making before b (Err (at_side n s)) after h)
 
 -- so that of sound words making leaves sound words, done or refused
 pub make_keeps_sound : (before : List ℕ) (b : ℕ) (r : Answer) (after : List ℕ) → T (sound (table_of before)) → Made before b r after → T (sound (table_of after))

@@ -6,18 +6,16 @@ use Prim.Native.Nat.{ℕ}
 use native.Mathlib.Omega.{arith}
 use lib.Dec.{T, leb, leb→le}
 use lib.ListN.{length}
+use Rattle.std.specs.Prelude.{Ok, Err}
 use Rattle.table.specs.Words.{table_of}
 use Rattle.table.proofs.WordsOfSlots.{slots_length}
 use Rattle.table.specs.Making.{fresh, begin_fits, Made}
-use Rattle.refusal.specs.declared.Answer.{Answer}
-use Rattle.refusal.specs.declared.Answer.TheVariants as A
 use Rattle.refusal.specs.declared.Side.{Side}
 use Rattle.refusal.specs.declared.Side.TheVariants.{Neither}
 use Rattle.refusal.specs.declared.Refusal.{Refusal}
 use Rattle.refusal.specs.declared.Refusal.TheVariants.{BadBegin}
 use Rattle.refusal.proofs.Numbers.{is_done, is_refused}
-use Rattle.refusal.specs.declared.Verdict.{Verdict}
-use Rattle.refusal.specs.declared.Verdict.TheVariants as W
+use Rattle.refusal.specs.Refusal.{Answer, Verdict, at_side}
 use Rattle.record.specs.declared.request.Request.{Request}
 use Rattle.record.specs.declared.request.Request.TheVariants as Q
 use Rattle.rules.specs.Act.{Act, World, world_of, run}
@@ -40,25 +38,25 @@ fresh-sound b h = let p = and→ (leb 1 b) (leb b 256) h in made_sound b (leb→
 
 -- done with a sound table, or refused with the words as they were
 pub data Making (before : List ℕ) (r : Answer) (after : List ℕ) : Type 0 where
-  made : r ≡ A.Done 0 → T (sound (table_of after)) → Making before r after
-  refused : r ≡ A.Refused BadBegin Neither → after ≡ before → Making before r after
+  made : r ≡ Ok 0 → T (sound (table_of after)) → Making before r after
+  refused : r ≡ Err (at_side BadBegin Neither) → after ≡ before → Making before r after
 
 making-by :
     (fits : Bool) (before : List ℕ) (b : ℕ) (r : Answer) (after : List ℕ)
     → (T fits → T (sound (fresh b)))
     → MadeBy fits before b r after
     → Making before r after
-making-by true before b r after s h = made (is_done r h.0 ∙ ap A.Done h.1) (rw h.2 (s tt))
-making-by false before b r after s h = refused (is_refused r BadBegin Neither h.0 h.1) h.3
+making-by true before b r after s h = made (is_done r h.0 ∙ ap Ok h.1) (rw h.2 (s tt))
+making-by false before b r after s h = refused (is_refused r (at_side BadBegin Neither) h.0 h.1) h.3
 
 pub making : (before : List ℕ) (b : ℕ) (r : Answer) (after : List ℕ) → Made before b r after → Making before r after
 making before b r after h = making-by (begin_fits b) before b r after (fresh-sound b) h
 
-pub done_sound : (before : List ℕ) (n : ℕ) (after : List ℕ) → Making before (A.Done n) after → T (sound (table_of after))
+pub done_sound : (before : List ℕ) (n : ℕ) (after : List ℕ) → Making before (Ok n) after → T (sound (table_of after))
 done_sound before n after (made e s) = s
 done_sound before n after (refused e k) = let z : ◌≡◌ {A = ℕ} 0 1 = cc in absurd (omega arith)
 
-pub refused_same : (before : List ℕ) (n : Refusal) (s : Side) (after : List ℕ) → Making before (A.Refused n s) after → after ≡ before
+pub refused_same : (before : List ℕ) (n : Refusal) (s : Side) (after : List ℕ) → Making before (Err (at_side n s)) after → after ≡ before
 refused_same before n s after (made e k) = let z : ◌≡◌ {A = ℕ} 0 1 = cc in absurd (omega arith)
 refused_same before n s after (refused e k) = k
 
@@ -72,20 +70,20 @@ module _ (words bytes : List ℕ) (r : Answer) (words' bytes' : List ℕ) where
   sound-by :
       (v : Verdict) (act : Act)
       → T (sound (table_of words))
-      → (v ≡ W.Accepted → T (sound (act (table_of words)).table))
+      → (v ≡ Ok tt → T (sound (act (table_of words)).table))
       → Outcome v act 0 words bytes r words' bytes'
       → T (sound (table_of words'))
   unfolding run
-  sound-by (W.Refused n u) act s f h = rw h.3 s
-  sound-by W.Accepted act s f h = let e : table_of words' ≡ (act (table_of words)).table = ap (λ (w : World). w.table) h.1 in rw e (f refl)
+  sound-by (Err e) act s f h = rw h.3 s
+  sound-by (Ok u) act s f h = let e : table_of words' ≡ (act (table_of words)).table = ap (λ (w : World). w.table) h.1 in rw e (f refl)
 
   pub call_sound : (q : Request) → T (sound (table_of words)) → Call q words bytes r words' bytes' → T (sound (table_of words'))
   call_sound q s h = sound-by (verdict q (table_of words) (length bytes)) (act_of q) s (act_sound q words (length bytes)) h
 
   same_by : (v : Verdict) → Outcome v list 0 words bytes r words' bytes' → table_of words' ≡ table_of words
   unfolding run list
-  same_by (W.Refused n s) h = ap table_of h.3
-  same_by W.Accepted h = ap (λ (w : World). w.table) h.1
+  same_by (Err e) h = ap table_of h.3
+  same_by (Ok u) h = ap (λ (w : World). w.table) h.1
 
   pub list_same : Call Q.List words bytes r words' bytes' → table_of words' ≡ table_of words
   list_same h = same_by (verdict Q.List (table_of words) (length bytes)) h

@@ -4,13 +4,11 @@ use mathlib.Core.List.{List}
 use Prim.Native.Nat.{ℕ}
 use lib.Dec.{T}
 use lib.ListN.{length}
+use Rattle.std.specs.Prelude.{Ok}
 use Rattle.table.specs.Table.{Table}
 use Rattle.table.specs.Words.{table_of}
 use Rattle.table.proofs.WordsOfSlots.{slots_length}
-use Rattle.refusal.specs.declared.Answer.{Answer}
-use Rattle.refusal.specs.declared.Answer.TheVariants as A
-use Rattle.refusal.specs.declared.Verdict.TheVariants as W
-use Rattle.refusal.specs.Refusal.{answer_written}
+use Rattle.refusal.specs.Refusal.{Answer, answer_written}
 use Rattle.record.specs.declared.request.Request.{Request}
 use Rattle.record.specs.Writing.{Out, out_of, write_all}
 use Rattle.rules.specs.Sound.{sound}
@@ -29,7 +27,7 @@ same_out :
     → (a ≡ b) × (bytes₁ ≡ bytes₂)
 same_out q words₁ words₂ bytes a b words₁' words₂' bytes₁ bytes₂ d e said =
     let o : out_of bytes₁ (answer_written a) ≡ out_of bytes₂ (answer_written b) = d.out ∙ ap (write_all (out_of bytes 0)) said ∙ sym e.out in
-    (d.answer ∙ ap (λ (x : Out). A.Done x.pos) o ∙ sym e.answer, ap (λ (x : Out). x.buf) o)
+    (d.answer ∙ ap (λ (x : Out). Ok x.pos) o ∙ sym e.answer, ap (λ (x : Out). x.buf) o)
 
 module _ (words : List ℕ) (r q : Request) (bytes-r bytes-q : List ℕ)
     (i : Independent (table_of words) r q (length bytes-r) (length bytes-q))
@@ -53,10 +51,10 @@ module _ (words : List ℕ) (r q : Request) (bytes-r bytes-q : List ℕ)
   q_done = done q words bytes-q y.between y.left_1 y.answer_1 i.q_accepted y.first_call
 
   -- the second is accepted as well
-  q_follows : verdict q (table_of x.between) n ≡ W.Accepted
+  q_follows : verdict q (table_of x.between) n ≡ Ok tt
   q_follows = rw r_done.table (q_still_accepted t (slots_length words) s r q m n i.r_three i.q_three i.r_accepted i.q_accepted i.apart i.one_making)
 
-  r_follows : verdict r (table_of y.between) m ≡ W.Accepted
+  r_follows : verdict r (table_of y.between) m ≡ Ok tt
   r_follows = rw q_done.table (r_still_accepted t (slots_length words) s r q m n i.r_three i.q_three i.r_accepted i.q_accepted i.apart i.one_making)
 
   pub q_done_second : Done q x.between bytes-q x.answer_2 x.after x.left_2

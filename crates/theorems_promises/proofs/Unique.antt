@@ -4,16 +4,18 @@ use mathlib.Core.Path.{◌≡◌, ap, sym, ◌∙◌}
 use mathlib.Core.Bool.{Bool}
 use mathlib.Core.List.{List, []}
 use Prim.Native.Nat.{ℕ}
+use Rattle.std.specs.Prelude.{Option, Result}
 use Rattle.table.specs.Words.{table_of}
 use Rattle.table.specs.Making.{Made, begin_fits}
-use Rattle.refusal.specs.declared.Answer.{Answer}
+use Rattle.refusal.specs.declared.Refusal.{Refusal}
 use Rattle.record.specs.declared.request.Request.{Request}
 use Rattle.record.specs.declared.request.Request.TheVariants as Q
-use Rattle.record.specs.declared.request.Reading.{Reading}
-use Rattle.record.specs.Reading.{Read}
+use Rattle.record.specs.Reading.{Reading, Read}
 use Rattle.record.specs.Writing.{Wrote, wrote_of, wrote, out_of}
 use Rattle.record.proofs.ReadInNumbers.{read_of_numbers}
 use Rattle.refusal.proofs.Numbers.{same_answer}
+use Rattle.std.specs.Prelude.{Option}
+use Rattle.refusal.specs.Refusal.{Answer}
 use Rattle.rules.specs.declared.fault.Fault.{Fault}
 use Rattle.rules.specs.Sound.{sound}
 use Rattle.rules.specs.Fault.{first_fault}
@@ -63,11 +65,11 @@ pub sound_once : (words : List ℕ) (r r' : Bool) → r ≡ sound (table_of word
 sound_once words r r' h k = h ∙ sym k
 
 -- .. and so is that of the question for a partner
-pub partner_once : (words : List ℕ) (d : ℕ) (r r' : Partner) → r ≡ partner_of (table_of words) d → r' ≡ partner_of (table_of words) d → r ≡ r'
+pub partner_once : (words : List ℕ) (d : ℕ) (r r' : Result (Option Partner) Refusal) → r ≡ partner_of (table_of words) d → r' ≡ partner_of (table_of words) d → r ≡ r'
 partner_once words d r r' h k = h ∙ sym k
 
 -- .. and that of the question why a table is damaged
-pub fault_once : (words : List ℕ) (r r' : Fault) → r ≡ first_fault (table_of words) → r' ≡ first_fault (table_of words) → r ≡ r'
+pub fault_once : (words : List ℕ) (r r' : Option Fault) → r ≡ first_fault (table_of words) → r' ≡ first_fault (table_of words) → r ≡ r'
 fault_once words r r' h k = h ∙ sym k
 
 -- reading

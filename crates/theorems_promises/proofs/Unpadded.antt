@@ -8,11 +8,11 @@ use lib.Dec.{eqb, ltb}
 use lib.ListN.{length, drop, length-append, length-drop}
 use lib.Seq.{drop-append_seam}
 use borrow.Author.Tests.{ne_eqb}
+use Rattle.std.specs.Prelude.{Ok, Err}
+use Rattle.record.specs.Reading.{Reading}
 use Rattle.lists.specs.Choice.{pick}
 use Rattle.refusal.specs.declared.Refusal.{Refusal}
 use Rattle.record.specs.declared.request.Request.{Request}
-use Rattle.record.specs.declared.request.Reading.{Reading}
-use Rattle.record.specs.declared.request.Reading.TheVariants as G
 use Rattle.record.specs.Fields.{AllBytes}
 use Rattle.record.specs.Records.{request_bytes}
 use Rattle.record.specs.Reading as reading
@@ -21,7 +21,8 @@ use Rattle.record.proofs.Written.{request_some}
 use Rattle.record.proofs.Theorems.{request_read, read_request_fits, read_request_four, read_request_size}
 use Rattle.rules.specs.Act.{World}
 use Rattle.rules.specs.Sound.{sound}
-use Rattle.rules.specs.Run.{Progress, Ended, Ran, unsound, ran, tape_empty, allowance_used, output_full, bad_record, stopped, advanced, go_on, room, began, run_from, run_tape, run_room, requests_of, behind_of}
+use Rattle.rules.specs.declared.stop.Stop.TheVariants as S
+use Rattle.rules.specs.Run.{Progress, Ended, Ran, unsound, ran, stopped, advanced, go_on, room, began, run_from, run_tape, run_room, requests_of, behind_of}
 use Rattle.rules.proofs.TapeRequests.{first_request, behind_first}
 use Rattle.theorems_promises.proofs.RowsJoined.{none_behind_bad}
 use Rattle.theorems_promises.specs.Tapes.{tape_of, all_requests, behind_requests, unpadded_tape}
@@ -31,21 +32,21 @@ use Rattle.theorems_promises.specs.Tapes.{tape_of, all_requests, behind_requests
 abbrev Alike : ℕ → ℕ → List ℕ → Type 0
 Alike n m tape = (requests_of n tape ≡ requests_of m tape) × (behind_of n tape ≡ behind_of m tape)
 
-alike_bad : (n m : ℕ) (tape : List ℕ) (r : Refusal) → reading.read tape ≡ G.Refused r → Alike n m tape
+alike_bad : (n m : ℕ) (tape : List ℕ) (r : Refusal) → reading.read tape ≡ Err r → Alike n m tape
 alike_bad n m tape r e =
     let a = none_behind_bad n tape r e in
     let b = none_behind_bad m tape r e in
     (a.0 ∙ sym b.0, a.1 ∙ sym b.1)
 
-alike_more : (n m : ℕ) (tape : List ℕ) (q : Request) (size : ℕ) → reading.read tape ≡ G.Request q size → Alike n m (drop size tape) → Alike (suc n) (suc m) tape
+alike_more : (n m : ℕ) (tape : List ℕ) (q : Request) (size : ℕ) → reading.read tape ≡ Ok (q, size) → Alike n m (drop size tape) → Alike (suc n) (suc m) tape
 alike_more n m tape q size e h = (
   first_request n tape q size e ∙ ap (λ (qs : List Request). q ∷ qs) h.0 ∙ sym (first_request m tape q size e),
   behind_first n tape q size e ∙ h.1 ∙ sym (behind_first m tape q size e),
 )
 
 no_tape : (tape : List ℕ) (r : Reading) → reading.read tape ≡ r → length tape ≤ 0 → (n m : ℕ) → Alike n m tape
-no_tape tape (G.Request q size) e h n m = absurd (omega (arith, read_request_four tape q size e, read_request_size tape q size e))
-no_tape tape (G.Refused r) e h n m = alike_bad n m tape r e
+no_tape tape (Ok (q, size)) e h n m = absurd (omega (arith, read_request_four tape q size e, read_request_size tape q size e))
+no_tape tape (Err r) e h n m = alike_bad n m tape r e
 
 enough-by :
     (n m : ℕ) (tape : List ℕ) (r : Reading)
@@ -54,8 +55,8 @@ enough-by :
     → length tape ≤ suc m
     → ((l : List ℕ) → length l ≤ n → length l ≤ m → Alike n m l)
     → Alike (suc n) (suc m) tape
-enough-by n m tape (G.Refused r) e h k later = alike_bad (suc n) (suc m) tape r e
-enough-by n m tape (G.Request q size) e h k later =
+enough-by n m tape (Err r) e h k later = alike_bad (suc n) (suc m) tape r e
+enough-by n m tape (Ok (q, size)) e h k later =
     alike_more n m tape q size e
     (later (drop size tape)
     (omega (arith, read_request_four tape q size e, length-drop size tape))
@@ -71,7 +72,7 @@ enough (suc n) (suc m) tape h k = enough-by n m tape (reading.read tape) refl h 
 
 module _ (tape : List ℕ) where
   -- a record that is read stands there as it is written
-  module _ (q : Request) (size : ℕ) (e : reading.read tape ≡ G.Request q size) where
+  module _ (q : Request) (size : ℕ) (e : reading.read tape ≡ Ok (q, size)) where
     one_more : Alike (length tape) (suc (length tape)) tape
     one_more = enough (length tape) (suc (length tape)) tape (omega arith) (omega arith)
 
@@ -89,14 +90,14 @@ module _ (tape : List ℕ) where
     unpadded_first = rw (all_requests_lem, all_behind, append_assoc)
 
   -- a bad one stays
-  pub unpadded-bad : (m : Refusal) → reading.read tape ≡ G.Refused m → unpadded_tape tape ≡ tape
+  pub unpadded-bad : (m : Refusal) → reading.read tape ≡ Err m → unpadded_tape tape ≡ tape
   unfolding unpadded_tape tape_of
   unpadded-bad m e = let h = none_behind_bad (length tape) tape m e in rw (h.0, h.1)
 
 -- ---- what is read from it
 
-module _ (tape : List ℕ) (a : AllBytes tape) (q : Request) (size : ℕ) (e : reading.read tape ≡ G.Request q size) where
-  pub read_exact : reading.read (unpadded_tape tape) ≡ G.Request q (length (request_bytes q))
+module _ (tape : List ℕ) (a : AllBytes tape) (q : Request) (size : ℕ) (e : reading.read tape ≡ Ok (q, size)) where
+  pub read_exact : reading.read (unpadded_tape tape) ≡ Ok (q, length (request_bytes q))
   read_exact = ap reading.read (unpadded_first tape q size e) ∙ request_read q (unpadded_tape (drop size tape)) (read_request_fits tape q size a e)
 
   pub behind_exact : drop (length (request_bytes q)) (unpadded_tape tape) ≡ unpadded_tape (drop size tape)
@@ -104,8 +105,8 @@ module _ (tape : List ℕ) (a : AllBytes tape) (q : Request) (size : ℕ) (e : r
 
 -- it is empty where the tape is
 empty_by : (tape : List ℕ) (r : Reading) → reading.read tape ≡ r → eqb (length (unpadded_tape tape)) 0 ≡ eqb (length tape) 0
-empty_by tape (G.Refused m) e = rw (unpadded-bad tape m e)
-empty_by tape (G.Request q size) e =
+empty_by tape (Err m) e = rw (unpadded-bad tape m e)
+empty_by tape (Ok (q, size)) e =
     let more = length-append (request_bytes q) (unpadded_tape (drop size tape)) in
     ne_eqb (length (unpadded_tape tape)) 0 (λ f. omega (arith, more, ap length (unpadded_first tape q size e), request_some q))
     ∙ sym (ne_eqb (length tape) 0 (λ f. omega (arith, read_request_four tape q size e, read_request_size tape q size e)))
@@ -116,8 +117,8 @@ empty_alike tape = empty_by tape (reading.read tape) refl
 -- ---- all of its requests
 
 requests_by : (n : ℕ) (tape : List ℕ) → AllBytes tape → (r : Reading) → reading.read tape ≡ r → ((l : List ℕ) → AllBytes l → requests_of n (unpadded_tape l) ≡ requests_of n l) → requests_of (suc n) (unpadded_tape tape) ≡ requests_of (suc n) tape
-requests_by n tape a (G.Refused m) e later = rw (unpadded-bad tape m e)
-requests_by n tape a (G.Request q size) e later =
+requests_by n tape a (Err m) e later = rw (unpadded-bad tape m e)
+requests_by n tape a (Ok (q, size)) e later =
     first_request n (unpadded_tape tape) q (length (request_bytes q)) (read_exact tape a q size e)
     ∙ ap (λ (l : List ℕ). q ∷ requests_of n l) (behind_exact tape a q size e)
     ∙ ap (λ (qs : List Request). q ∷ qs) (later (drop size tape) (bytes_drop size tape a))
@@ -129,9 +130,9 @@ same_requests zero tape a = refl
 same_requests (suc n) tape a = requests_by n tape a (reading.read tape) refl (same_requests n)
 
 behind_by : (n : ℕ) (tape : List ℕ) → AllBytes tape → (r : Reading) → reading.read tape ≡ r → ((l : List ℕ) → AllBytes l → behind_of n (unpadded_tape l) ≡ unpadded_tape (behind_of n l)) → behind_of (suc n) (unpadded_tape tape) ≡ unpadded_tape (behind_of (suc n) tape)
-behind_by n tape a (G.Refused m) e later =
+behind_by n tape a (Err m) e later =
     rw (unpadded-bad tape m e, (none_behind_bad (suc n) tape m e).1, unpadded-bad tape m e)
-behind_by n tape a (G.Request q size) e later =
+behind_by n tape a (Ok (q, size)) e later =
     behind_first n (unpadded_tape tape) q (length (request_bytes q)) (read_exact tape a q size e)
     ∙ ap (behind_of n) (behind_exact tape a q size e)
     ∙ later (drop size tape) (bytes_drop size tape a)
@@ -170,7 +171,7 @@ through : (b : Bool) (e f : Ended) → unpadded_ended (pick b e f) ≡ pick b (u
 through true e f = refl
 through false e f = refl
 
-advanced-unpadded : (p : Progress) → AllBytes p.rest → (q : Request) (size : ℕ) → reading.read p.rest ≡ G.Request q size → advanced q (length (request_bytes q)) (unpadded_progress p) ≡ unpadded_progress (advanced q size p)
+advanced-unpadded : (p : Progress) → AllBytes p.rest → (q : Request) (size : ℕ) → reading.read p.rest ≡ Ok (q, size) → advanced q (length (request_bytes q)) (unpadded_progress p) ≡ unpadded_progress (advanced q size p)
 advanced-unpadded p a q size e = rw (behind_exact p.rest a q size e)
 
 go-on-by :
@@ -181,21 +182,21 @@ go-on-by :
     → (r : Reading)
     → reading.read p.rest ≡ r
     → go_on more (reading.read (unpadded_tape p.rest)) (unpadded_progress p) ≡ unpadded_ended (go_on more (reading.read p.rest) p)
-go-on-by more h p a (G.Refused m) e =
+go-on-by more h p a (Err m) e =
     let stays = unpadded-bad p.rest m e in
-    rw (stays, e) (ap (λ (l : List ℕ). stopped bad_record (record { world = p.world; rest = l; handled = p.handled })) (sym stays))
-go-on-by more h p a (G.Request q size) e =
+    rw (stays, e) (ap (λ (l : List ℕ). stopped S.BadRecord (record { world = p.world; rest = l; handled = p.handled })) (sym stays))
+go-on-by more h p a (Ok (q, size)) e =
     rw (read_exact p.rest a q size e, e)
     (ap more (advanced-unpadded p a q size e) ∙ h (advanced q size p) (bytes_drop size p.rest a))
 
 pub run-unpadded : (k : ℕ) (p : Progress) → AllBytes p.rest → run_from k (unpadded_progress p) ≡ unpadded_ended (run_from k p)
 unfolding run_from
-run-unpadded zero p a = rw (empty_alike p.rest) (sym (through (eqb (length p.rest) 0) (stopped tape_empty p) (stopped allowance_used p)))
+run-unpadded zero p a = rw (empty_alike p.rest) (sym (through (eqb (length p.rest) 0) (stopped S.TapeEmpty p) (stopped S.AllowanceUsed p)))
 run-unpadded (suc k) p a =
     let next = go_on (run_from k) (reading.read p.rest) p in
     rw (empty_alike p.rest, go-on-by (run_from k) (run-unpadded k) p a (reading.read p.rest) refl)
-    (ap (pick (eqb (length p.rest) 0) (stopped tape_empty (unpadded_progress p))) (sym (through (ltb (room p.world) run_room) (stopped output_full p) next))
-    ∙ sym (through (eqb (length p.rest) 0) (stopped tape_empty p) (pick (ltb (room p.world) run_room) (stopped output_full p) next)))
+    (ap (pick (eqb (length p.rest) 0) (stopped S.TapeEmpty (unpadded_progress p))) (sym (through (ltb (room p.world) run_room) (stopped S.OutputFull p) next))
+    ∙ sym (through (eqb (length p.rest) 0) (stopped S.TapeEmpty p) (pick (ltb (room p.world) run_room) (stopped S.OutputFull p) next)))
 
 abbrev pub unpadded_ran : Ran → Ran
 unpadded_ran unsound = unsound

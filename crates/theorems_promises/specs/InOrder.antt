@@ -1,8 +1,7 @@
 -- Two calls one after the other, and two requests of which the order does not matter.
-use Rattle.std.specs.Prelude.{◌≡◌, List, ℕ, T}
+use Rattle.refusal.specs.Refusal.{Answer}
+use Rattle.std.specs.Prelude.{◌≡◌, List, ℕ, T, Ok}
 use Rattle.table.specs.Table.{Table}
-use Rattle.refusal.specs.declared.Answer.{Answer}
-use Rattle.refusal.specs.declared.Verdict.TheVariants as W
 use Rattle.record.specs.declared.request.Request.{Request}
 use Rattle.rules.specs.Calls.{verdict}
 use Rattle.rules.specs.Concerns.{concerns, is_making}
@@ -14,8 +13,8 @@ use Rattle.theorems_promises.specs.Lent.{Lent}
 pub record Independent (t : Table) (r q : Request) (room-r room-q : ℕ) : Type 0 where
   pub r_three : T (gives_commands r)
   pub q_three : T (gives_commands q)
-  pub r_accepted : verdict r t room-r ≡ W.Accepted
-  pub q_accepted : verdict q t room-q ≡ W.Accepted
+  pub r_accepted : verdict r t room-r ≡ Ok tt
+  pub q_accepted : verdict q t room-q ≡ Ok tt
   pub apart : (j : ℕ) → ¬ (T (concerns r t j) × T (concerns q t j))
   pub one_making : ¬ (T (is_making r t) × T (is_making q t))
 

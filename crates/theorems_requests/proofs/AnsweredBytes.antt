@@ -7,9 +7,9 @@ use native.Mathlib.Omega.{arith}
 use lib.Dec.{T}
 use lib.ListN.{length, length-append}
 use borrow.Author.Tests.{ltb-false}
+use Rattle.refusal.specs.Refusal.{Verdict}
+use Rattle.std.specs.Prelude.{Ok, Err}
 use Rattle.table.specs.Table.{Table, Full}
-use Rattle.refusal.specs.declared.Verdict.{Verdict}
-use Rattle.refusal.specs.declared.Verdict.TheVariants as W
 use Rattle.record.specs.declared.request.Request.{Request}
 use Rattle.record.specs.declared.request.Request.TheVariants as Q
 use Rattle.record.specs.declared.answer.Record.{Record}
@@ -41,7 +41,7 @@ module _ (t : Table) (full : Full t) (space : ℕ) where
   unfolding bytes_of
   nothing_fits = (omega arith, omega arith)
 
-  listing_bytes : verdict Q.List t space ≡ W.Accepted → Fits space (listing t)
+  listing_bytes : verdict Q.List t space ≡ Ok tt → Fits space (listing t)
   unfolding verdict
   listing_bytes e =
       let p = all_passed (list_checks t space) e in
@@ -50,13 +50,13 @@ module _ (t : Table) (full : Full t) (space : ℕ) where
 
   list_by : (v : Verdict) → verdict Q.List t space ≡ v → Fits space (act_by v Q.List t).said
   unfolding list skip
-  list_by W.Accepted e = listing_bytes e
-  list_by (W.Refused n s) e = nothing_fits
+  list_by (Ok u) e = listing_bytes e
+  list_by (Err x) e = nothing_fits
 
   reset_by : (v : Verdict) → Fits space (act_by v Q.Reset t).said
   unfolding change skip
-  reset_by W.Accepted = nothing_fits
-  reset_by (W.Refused n s) = nothing_fits
+  reset_by (Ok u) = nothing_fits
+  reset_by (Err e) = nothing_fits
 
   pub answered_bytes : (r : Request) → Fits space (answered r space t).said
   unfolding answered
@@ -76,8 +76,8 @@ bytes_joined (r ∷ rs) qs =
 
 end_size : (v : Verdict) → length (bytes_of (end_record v ∷ [])) ≡ 8
 unfolding bytes_of answer_bytes
-end_size W.Accepted = refl
-end_size (W.Refused n s) = refl
+end_size (Ok u) = refl
+end_size (Err e) = refl
 
 pub ended_fits : (w : World) → Full w.table → (r : Request) (v : Verdict) → run_room ≤ room w → length (bytes_of ((answered r (room w) w.table).said ++ end_record v ∷ [])) ≤ room w
 ended_fits w full r v h =

@@ -4,9 +4,9 @@ use mathlib.Core.Path.{◌≡◌}
 use mathlib.Core.List.{List}
 use Prim.Native.Nat.{ℕ}
 use lib.Dec.{T}
+use Rattle.std.specs.Prelude.{Ok}
 use Rattle.table.specs.Table.{Table, Full}
 use Rattle.record.specs.declared.request.Request.{Request}
-use Rattle.refusal.specs.declared.Verdict.TheVariants as W
 use Rattle.rules.specs.Sound.{sound}
 use Rattle.rules.specs.Calls.{act_of, verdict}
 use Rattle.rules.specs.Concerns.{concerns, is_making}
@@ -25,7 +25,7 @@ use Rattle.theorems_requests.proofs.Reordering.{reordered_table, reordered_given
 module _ (t : Table) (full : Full t) (s : T (sound t))
     (r q : Request) (m n : ℕ)
     (r_three : T (gives_commands r)) (q_three : T (gives_commands q))
-    (r_accepted : verdict r t m ≡ W.Accepted) (q_accepted : verdict q t n ≡ W.Accepted)
+    (r_accepted : verdict r t m ≡ Ok tt) (q_accepted : verdict q t n ≡ Ok tt)
     (apart : (j : ℕ) → ¬ (T (concerns r t j) × T (concerns q t j)))
     (one_making : ¬ (T (is_making r t) × T (is_making q t))) where
   w : Whole t
@@ -49,10 +49,10 @@ module _ (t : Table) (full : Full t) (s : T (sound t))
   q_commands = same_commands t w q r n m q_asked r_asked (apart_back t r q (apart, one_making))
 
   -- both are accepted in either order, since the first keeps the table sound
-  pub r_still_accepted : verdict r (act_of q t).table m ≡ W.Accepted
+  pub r_still_accepted : verdict r (act_of q t).table m ≡ Ok tt
   r_still_accepted = accepted_after t w r q m n r_asked q_asked (apart, one_making) (act_keeps q n t w q_accepted)
 
-  pub q_still_accepted : verdict q (act_of r t).table n ≡ W.Accepted
+  pub q_still_accepted : verdict q (act_of r t).table n ≡ Ok tt
   q_still_accepted = accepted_after t w q r n m q_asked r_asked (apart_back t r q (apart, one_making)) (act_keeps r m t w r_accepted)
 
 -- ---- any number of requests

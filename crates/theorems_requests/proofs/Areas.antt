@@ -8,6 +8,7 @@ use Prim.Native.Nat.{ℕ, ◌+◌, ◌≤◌, ◌<◌}
 use native.Mathlib.Decide.{dec_lt}
 use native.Mathlib.Omega.{arith}
 use lib.Dec.{T}
+use Rattle.std.specs.Prelude.{Ok}
 use Rattle.slot.specs.declared.state.State.TheVariants as S
 use Rattle.slot.specs.State.{is_outer}
 use Rattle.slot.specs.Number.{none}
@@ -17,7 +18,6 @@ use Rattle.table.proofs.TableLaws.{at_out}
 use Rattle.table.specs.Nodes.{present, inner}
 use Rattle.table.specs.Climb.{outer_blossom, outer_blossom_within}
 use Rattle.table.specs.Place.{place}
-use Rattle.refusal.specs.declared.Verdict.TheVariants as W
 use Rattle.record.specs.declared.request.Request.{Request}
 use Rattle.rules.specs.Slots.{up, next}
 use Rattle.rules.specs.Trees.{is_unloaded, seen}
@@ -109,7 +109,7 @@ fresh_empty t w =
       | inl p ↦ elim (w.rest.given n p) [ inl l ↦ absurd (omega arith) | inr g ↦ absurd (omega (arith, g.1)) ]
     ]
 
-module _ (r : Request) (t : Table) (room : ℕ) (w : Whole t) (ok : verdict r t room ≡ W.Accepted) where
+module _ (r : Request) (t : Table) (room : ℕ) (w : Whole t) (ok : verdict r t room ≡ Ok tt) where
   -- a concerned node is seen as outer
   pub concerns-outer : (m : ℕ) → T (concerns r t m) → T (is_outer (seen t m).state)
   concerns-outer m c =
@@ -200,7 +200,7 @@ apart_back t r q a = (λ j h. a.0 j (h.1, h.0), λ h. a.1 (h.1, h.0))
 
 module _ (t : Table) (w : Whole t) where
   -- no request concerns the slot of the next blossom
-  fresh_unconcerned : (r : Request) (room : ℕ) → verdict r t room ≡ W.Accepted → ¬ T (concerns r t (outer_blossom t (t.begin + t.blossoms)))
+  fresh_unconcerned : (r : Request) (room : ℕ) → verdict r t room ≡ Ok tt → ¬ T (concerns r t (outer_blossom t (t.begin + t.blossoms)))
   fresh_unconcerned r room ok c =
       let n = t.begin + t.blossoms in
       let empty = fresh_empty t w in
@@ -212,8 +212,8 @@ module _ (t : Table) (w : Whole t) where
 
   pub areas-apart :
       (r q : Request) (m n : ℕ)
-      → verdict r t m ≡ W.Accepted
-      → verdict q t n ≡ W.Accepted
+      → verdict r t m ≡ Ok tt
+      → verdict q t n ≡ Ok tt
       → ApartIn t r q
       → (j : ℕ)
       → j < 256
@@ -233,7 +233,7 @@ abbrev pub none_shared : Request → Request → Table → Bool
 none_shared r q t = all_below (λ j. not (concerns r t j && concerns q t j)) 256
 
 -- a concerned node has a number below 256
-concerned_below : (t : Table) → Whole t → (r : Request) (room : ℕ) → verdict r t room ≡ W.Accepted → (j : ℕ) → T (concerns r t j) → j < 256
+concerned_below : (t : Table) → Whole t → (r : Request) (room : ℕ) → verdict r t room ≡ Ok tt → (j : ℕ) → T (concerns r t j) → j < 256
 concerned_below t w r room ok j c =
     elim (test_case (is_unloaded t j)) [
       | inl u ↦ omega (arith, (unloaded→ t j u).0, w.rest.sizes.begin_fits)

@@ -12,10 +12,11 @@ use Prim.Native.Nat.{ℕ, ◌+◌, ◌-◌, ◌≤◌}
 use native.Mathlib.Omega.{arith}
 use lib.Dec.{T}
 use lib.ListN.{length, take, drop}
+use Rattle.std.specs.Prelude.{Ok, Err}
 use Rattle.table.specs.Table.{Table, Full}
 use Rattle.refusal.specs.declared.Side.{Side}
 use Rattle.refusal.specs.declared.Refusal.TheVariants.{NoCommandRoom, NoListingRoom}
-use Rattle.refusal.specs.declared.Verdict.TheVariants as W
+use Rattle.refusal.specs.Refusal.{at_side}
 use Rattle.record.specs.declared.request.Conflict.{Conflict}
 use Rattle.record.specs.declared.request.VirtualConflict.{VirtualConflict}
 use Rattle.record.specs.declared.request.Request.{Request}
@@ -38,10 +39,10 @@ use Rattle.theorems_requests.proofs.RunVerdicts.{same-verdict, room_enough}
 
 -- ---- how many
 
-pub conflict_commands : (t : Table) → Full t → T (sound t) → (room : ℕ) (c : Conflict) → verdict (Q.Conflict c) t room ≡ W.Accepted → length (conflict c t).said ≤ 510
+pub conflict_commands : (t : Table) → Full t → T (sound t) → (room : ℕ) (c : Conflict) → verdict (Q.Conflict c) t room ≡ Ok tt → length (conflict c t).said ≤ 510
 conflict_commands t full s room c e = conflict_most t room (to_whole t full s) c e
 
-pub virtual_conflict_commands : (t : Table) → Full t → T (sound t) → (room : ℕ) (c : VirtualConflict) → verdict (Q.VirtualConflict c) t room ≡ W.Accepted → length (virtual_conflict c t).said ≤ 509
+pub virtual_conflict_commands : (t : Table) → Full t → T (sound t) → (room : ℕ) (c : VirtualConflict) → verdict (Q.VirtualConflict c) t room ≡ Ok tt → length (virtual_conflict c t).said ≤ 509
 virtual_conflict_commands t full s room c e = virtual_most t room (to_whole t full s) c e
 
 -- ---- which records, whatever the table
@@ -108,7 +109,7 @@ served-written w full r h =
 pub no-room-refusal :
     (w : World) (r : Request) (s : Side)
     → run_room ≤ room w
-    → (verdict r w.table (room w) ≢ W.Refused NoCommandRoom s) × (verdict r w.table (room w) ≢ W.Refused NoListingRoom s)
+    → (verdict r w.table (room w) ≢ Err (at_side NoCommandRoom s)) × (verdict r w.table (room w) ≢ Err (at_side NoListingRoom s))
 no-room-refusal w r s h = room_enough r w.table (room w) s h
 
 -- so in a run the verdict does not depend on the room

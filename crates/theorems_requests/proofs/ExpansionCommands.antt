@@ -7,11 +7,11 @@ use mathlib.Core.List.{List, [], ◌∷◌, ◌++◌, append-nil}
 use Prim.Native.Nat.{ℕ, suc, ◌+◌, ◌≤◌}
 use native.Mathlib.Omega.{arith}
 use lib.ListN.{length, length-append}
+use Rattle.std.specs.Prelude.{Ok}
 use Rattle.slot.specs.declared.state.State.TheVariants as S
 use Rattle.slot.specs.Slot.{Link}
 use Rattle.table.specs.Table.{Table, at}
 use Rattle.table.specs.Climb.{second_outer_blossom}
-use Rattle.refusal.specs.declared.Verdict.TheVariants as W
 use Rattle.record.specs.declared.request.Expansion.{Expansion}
 use Rattle.record.specs.declared.request.Request.TheVariants as Q
 use Rattle.record.specs.declared.answer.Record.{Record}
@@ -148,5 +148,5 @@ module _ (t : Table) (w : Whole t) (b : ℕ) (blossom : t.begin ≤ b) (shrinks 
   pub says_at_most : length (expansion b t).said ≤ 256
   says_at_most = omega (arith, says_length, ring_fits_lem)
 
-pub expansion_commands : (t : Table) (room : ℕ) (e : Expansion) → Whole t → verdict (Q.Expansion e) t room ≡ W.Accepted → length (expansion e.node.0 t).said ≤ 256
+pub expansion_commands : (t : Table) (room : ℕ) (e : Expansion) → Whole t → verdict (Q.Expansion e) t room ≡ Ok tt → length (expansion e.node.0 t).said ≤ 256
 expansion_commands t room e w a = let r = acceptable_expansion t room e a in says_at_most t w e.node.0 r.blossom r.shrinks

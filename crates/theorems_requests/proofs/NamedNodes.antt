@@ -3,10 +3,10 @@ use mathlib.Core.Path.{◌≡◌}
 use mathlib.Core.Logic.{inl, inr}
 use Prim.Native.Nat.{ℕ}
 use lib.Dec.{T}
+use Rattle.std.specs.Prelude.{Ok}
 use Rattle.slot.specs.State.{is_outer}
 use Rattle.table.specs.Table.{Table}
 use Rattle.table.specs.Nodes.{outer}
-use Rattle.refusal.specs.declared.Verdict.TheVariants as W
 use Rattle.record.specs.declared.request.Request.{Request}
 use Rattle.record.specs.declared.request.Request.TheVariants as Q
 use Rattle.rules.specs.Trees.{seen}
@@ -18,7 +18,7 @@ use Rattle.theorems_requests.proofs.ConcernedNodes.{seen-outer}
 
 module _ (t : Table) (room : ℕ) where
   -- every node named is seen as outer
-  pub named-outer : (r : Request) → verdict r t room ≡ W.Accepted → (n : ℕ) → n ∈ named r → T (is_outer (seen t n).state)
+  pub named-outer : (r : Request) → verdict r t room ≡ Ok tt → (n : ℕ) → n ∈ named r → T (is_outer (seen t n).state)
   named-outer (Q.Conflict c) e n (inl q) = rw q (acceptable t room c e).outer_1
   named-outer (Q.Conflict c) e n (inr (inl q)) = rw q (acceptable t room c e).outer_2
   named-outer (Q.Conflict c) e n (inr (inr z)) = absurd z

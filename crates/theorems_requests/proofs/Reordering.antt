@@ -2,8 +2,8 @@
 use mathlib.Core.Path.{◌≡◌, refl, ap, ap₂, sym, ◌∙◌}
 use mathlib.Core.List.{List, [], ◌∷◌}
 use Prim.Native.Nat.{ℕ}
+use Rattle.std.specs.Prelude.{Ok}
 use Rattle.table.specs.Table.{Table}
-use Rattle.refusal.specs.declared.Verdict.TheVariants as W
 use Rattle.record.specs.declared.request.Request.{Request}
 use Rattle.record.specs.declared.answer.Record.{Record}
 use Rattle.rules.specs.Act.{Did}
@@ -16,7 +16,7 @@ use Rattle.theorems_requests.proofs.TwoRequests.{accepted_after, same_table, sam
 use Rattle.theorems_requests.proofs.StillApart.{still-apart}
 
 -- an accepted request does its rule
-pub answered_does : (r : Request) (room : ℕ) (t : Table) → verdict r t room ≡ W.Accepted → answered r room t ≡ act_of r t
+pub answered_does : (r : Request) (room : ℕ) (t : Table) → verdict r t room ≡ Ok tt → answered r room t ≡ act_of r t
 unfolding answered
 answered_does r room t e = rw e
 

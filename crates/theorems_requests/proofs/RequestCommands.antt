@@ -1,9 +1,9 @@
 -- How many commands an accepted conflict and an accepted virtual conflict give.
 use mathlib.Core.Path.{◌≡◌, refl, sym, ◌∙◌}
 use Prim.Native.Nat.{ℕ, ◌≤◌}
+use Rattle.std.specs.Prelude.{Ok}
 use Rattle.table.specs.Table.{Table, at}
 use Rattle.table.specs.Place.{place}
-use Rattle.refusal.specs.declared.Verdict.TheVariants as W
 use Rattle.record.specs.declared.request.Conflict.{Conflict}
 use Rattle.record.specs.declared.request.VirtualConflict.{VirtualConflict}
 use Rattle.record.specs.declared.request.Request.TheVariants as Q
@@ -34,7 +34,7 @@ unfolding virtual_conflict change look ◌then◌
 virtual-said t c = refl
 
 module _ (t : Table) (room : ℕ) (w : Whole t) where
-  pub conflict_most : (c : Conflict) → verdict (Q.Conflict c) t room ≡ W.Accepted → commands (conflict c) t ≤ 510
+  pub conflict_most : (c : Conflict) → verdict (Q.Conflict c) t room ≡ Ok tt → commands (conflict c) t ≤ 510
   conflict_most c e =
       let x = c.node_1.0 in
       let y = c.node_2.0 in
@@ -48,7 +48,7 @@ module _ (t : Table) (room : ℕ) (w : Whole t) where
       rw (conflict-said t c)
       (resolved_commands t₂ x y (conflict_link c) second.whole (rw at_x ok.outer_1) (rw at_y ok.outer_2) (rw at_x ok.not_minus_1) (rw at_y ok.not_minus_2))
 
-  pub virtual_most : (c : VirtualConflict) → verdict (Q.VirtualConflict c) t room ≡ W.Accepted → commands (virtual_conflict c) t ≤ 509
+  pub virtual_most : (c : VirtualConflict) → verdict (Q.VirtualConflict c) t room ≡ Ok tt → commands (virtual_conflict c) t ≤ 509
   virtual_most c e =
       let x = c.node.0 in
       let r = load_does t x w in

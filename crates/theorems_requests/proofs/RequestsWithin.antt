@@ -5,6 +5,7 @@ use mathlib.Core.Bool.{Bool, true, false, not, ◌&&◌, ◌||◌}
 use mathlib.Core.List.{List, ◌∷◌}
 use Prim.Native.Nat.{ℕ, ◌+◌}
 use lib.Dec.{T, leb}
+use Rattle.std.specs.Prelude.{Ok}
 use Rattle.slot.specs.State.{is_outer, is_present}
 use Rattle.slot.specs.Slot.{Slot}
 use Rattle.table.specs.Table.{Table, at}
@@ -13,7 +14,6 @@ use Rattle.table.specs.Place.{in_tree}
 use Rattle.refusal.specs.declared.Refusal.TheVariants as N
 use Rattle.refusal.specs.declared.Refusal.{Refusal}
 use Rattle.refusal.specs.declared.Side.{Side}
-use Rattle.refusal.specs.declared.Verdict.TheVariants as W
 use Rattle.record.specs.declared.request.Conflict.{Conflict}
 use Rattle.record.specs.declared.request.VirtualConflict.{VirtualConflict}
 use Rattle.record.specs.declared.request.Expansion.{Expansion}
@@ -43,7 +43,7 @@ use Rattle.theorems_requests.proofs.Areas.{InArea, fresh, named_concerned, named
 module _ (t : Table) (room : ℕ) (w : Whole t) (u : Table) where
   expansion-alike :
       (e : Expansion)
-      → verdict (Q.Expansion e) t room ≡ W.Accepted
+      → verdict (Q.Expansion e) t room ≡ Ok tt
       → Alike (InArea (Q.Expansion e) t) t u
       → Acted (InArea (Q.Expansion e) t) false t u (act_of (Q.Expansion e) t) (act_of (Q.Expansion e) u)
   expansion-alike e ok a =
@@ -65,7 +65,7 @@ module _ (t : Table) (room : ℕ) (w : Whole t) (u : Table) where
   pub request-acted :
       (r : Request)
       → T (gives_commands r)
-      → verdict r t room ≡ W.Accepted
+      → verdict r t room ≡ Ok tt
       → Alike (InArea r t) t u
       → (T (is_making r t) → t.blossoms ≡ u.blossoms)
       → Acted (InArea r t) (is_making r t) t u (act_of r t) (act_of r u)
@@ -159,7 +159,7 @@ module _ (t : Table) (room : ℕ) (w : Whole t) (u : Table) where
   pub request-verdict :
       (r : Request)
       → T (gives_commands r)
-      → verdict r t room ≡ W.Accepted
+      → verdict r t room ≡ Ok tt
       → T (sound t)
       → T (sound u)
       → Alike (InArea r t) t u

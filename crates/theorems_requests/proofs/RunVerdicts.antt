@@ -7,14 +7,14 @@ use Prim.Native.Nat.{ℕ, ◌*◌, ◌≤◌}
 use native.Mathlib.Omega.{arith}
 use lib.Dec.{T, T_not, ltb}
 use borrow.Author.Tests.{le-ltb}
+use Rattle.std.specs.Prelude.{Ok, Err}
 use Rattle.lists.specs.Choice.{pick}
 use Rattle.table.specs.Table.{Table}
 use Rattle.refusal.specs.declared.Side.{Side}
 use Rattle.refusal.specs.declared.Side.TheVariants.{Neither}
 use Rattle.refusal.specs.declared.Refusal.{Refusal}
 use Rattle.refusal.specs.declared.Refusal.TheVariants.{NotSound, NoRecordRoom, NoSuchNode, NotOuter, SameNode, TouchOutside, NotGrowing, NoBlossomSlot, NoCommandRoom, NoListingRoom, NotExpandable, BadRecord, BadBegin}
-use Rattle.refusal.specs.declared.Verdict.{Verdict}
-use Rattle.refusal.specs.declared.Verdict.TheVariants as W
+use Rattle.refusal.specs.Refusal.{Verdict, at_side}
 use Rattle.record.specs.declared.request.Request.{Request}
 use Rattle.record.specs.declared.request.Request.TheVariants as Q
 use Rattle.rules.specs.Sound.{sound}
@@ -59,10 +59,10 @@ of_room BadBegin = false
 
 -- not refused for the room
 abbrev HasRoom : Verdict → Type 0
-HasRoom W.Accepted = Unit {0}
-HasRoom (W.Refused n s) = T (not (of_room n))
+HasRoom (Ok u) = Unit {0}
+HasRoom (Err e) = T (not (of_room e.refusal))
 
-other_check : (b : Bool) (n : Refusal) (s : Side) (v : Verdict) → T (not (of_room n)) → HasRoom v → HasRoom (pick b (W.Refused n s) v)
+other_check : (b : Bool) (n : Refusal) (s : Side) (v : Verdict) → T (not (of_room n)) → HasRoom v → HasRoom (pick b (Err (at_side n s)) v)
 other_check true n s v h k = h
 other_check false n s v h k = k
 
@@ -83,12 +83,12 @@ has_room (Q.VirtualConflict c) t space h =
     rw (command_room t space h) (other_check (not (sound t)) NotSound Neither (first_of (virtual_node_checks t c)) tt (other_checks (virtual_node_checks t c) (tt, (tt, (tt, (tt, (tt, tt)))))))
 has_room (Q.Expansion e) t space h =
     rw (command_room t space h) (other_check (not (sound t)) NotSound Neither (first_of (expansion_node_checks t e)) tt (other_checks (expansion_node_checks t e) (tt, tt)))
-has_room Q.Reset t space h = other_check (not (sound t)) NotSound Neither W.Accepted tt tt
-has_room Q.List t space h = rw (listing-room t space h) (other_check (not (sound t)) NotSound Neither W.Accepted tt tt)
+has_room Q.Reset t space h = other_check (not (sound t)) NotSound Neither (Ok tt) tt tt
+has_room Q.List t space h = rw (listing-room t space h) (other_check (not (sound t)) NotSound Neither (Ok tt) tt tt)
 
-not_for_room : (v : Verdict) (n : Refusal) (s : Side) → T (of_room n) → HasRoom v → v ≢ W.Refused n s
+not_for_room : (v : Verdict) (n : Refusal) (s : Side) → T (of_room n) → HasRoom v → v ≢ Err (at_side n s)
 not_for_room v n s h k e = T_not (of_room n) (rw e at k) h
 
-pub room_enough : (r : Request) (t : Table) (space : ℕ) (s : Side) → run_room ≤ space → (verdict r t space ≢ W.Refused NoCommandRoom s) × (verdict r t space ≢ W.Refused NoListingRoom s)
+pub room_enough : (r : Request) (t : Table) (space : ℕ) (s : Side) → run_room ≤ space → (verdict r t space ≢ Err (at_side NoCommandRoom s)) × (verdict r t space ≢ Err (at_side NoListingRoom s))
 room_enough r t space s h =
     (not_for_room (verdict r t space) NoCommandRoom s tt (has_room r t space h), not_for_room (verdict r t space) NoListingRoom s tt (has_room r t space h))

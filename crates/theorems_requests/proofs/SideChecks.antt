@@ -3,11 +3,13 @@ use mathlib.Core.Path.{◌≡◌, refl}
 use mathlib.Core.Bool.{Bool, true, false, true≢false}
 use mathlib.Core.List.{List, [], ◌∷◌}
 use Prim.Native.Nat.{ℕ}
+use Rattle.std.specs.Prelude.{Ok, Err}
 use Rattle.lists.specs.Choice.{pick}
 use Rattle.table.specs.Table.{Table}
+use Rattle.refusal.specs.declared.Refusal.{Refusal}
+use Rattle.refusal.specs.declared.Side.{Side}
 use Rattle.refusal.specs.declared.Side.TheVariants.{Neither, First, Second}
-use Rattle.refusal.specs.declared.Verdict.{Verdict}
-use Rattle.refusal.specs.declared.Verdict.TheVariants as W
+use Rattle.refusal.specs.Refusal.{at_side, Verdict}
 use Rattle.record.specs.declared.request.Request.{Request}
 use Rattle.record.specs.declared.request.Request.TheVariants as Q
 use Rattle.record.specs.declared.request.Conflict.{Conflict}
@@ -18,8 +20,8 @@ use Rattle.theorems_requests.specs.Sides.{has_sides, is_of_one_node, fails_at_fi
 
 module _ (P : Verdict → Type 0) where
   abbrev Each : List Check → Type 0
-  Each [] = P W.Accepted
-  Each (c ∷ cs) = (c.applies ≡ true → P (W.Refused c.refusal c.side)) × (c.applies ≡ false → Each cs)
+  Each [] = P (Ok tt)
+  Each (c ∷ cs) = (c.applies ≡ true → P (Err (at_side c.refusal c.side))) × (c.applies ≡ false → Each cs)
 
   by_check : (b : Bool) (x v : Verdict) → (b ≡ true → P x) → (b ≡ false → P v) → P (pick b x v)
   by_check true x v p q = p refl
@@ -27,16 +29,19 @@ module _ (P : Verdict → Type 0) where
 
   of_first : (cs : List Check) → Each cs → P (first_of cs)
   of_first [] h = h
-  of_first (c ∷ cs) h = by_check c.applies (W.Refused c.refusal c.side) (first_of cs) h.0 (λ e. of_first cs (h.1 e))
+  of_first (c ∷ cs) h = by_check c.applies (Err (at_side c.refusal c.side)) (first_of cs) h.0 (λ e. of_first cs (h.1 e))
 
 -- ---- a conflict
 
 -- a side is named with 3, 4 and 6, and with no other; the check fails at that side, and where that is the second not at the first
+abbrev ItsSide : Table → Conflict → Refusal → Side → Type 0
+ItsSide t c n Neither = is_of_one_node n ≡ false
+ItsSide t c n First = (is_of_one_node n ≡ true) × (fails_at_first n t c ≡ true)
+ItsSide t c n Second = (is_of_one_node n ≡ true) × (fails_at_second n t c ≡ true) × (fails_at_first n t c ≡ false)
+
 abbrev pub AtItsSide : Table → Conflict → Verdict → Type 0
-AtItsSide t c W.Accepted = Unit {0}
-AtItsSide t c (W.Refused n Neither) = is_of_one_node n ≡ false
-AtItsSide t c (W.Refused n First) = (is_of_one_node n ≡ true) × (fails_at_first n t c ≡ true)
-AtItsSide t c (W.Refused n Second) = (is_of_one_node n ≡ true) × (fails_at_second n t c ≡ true) × (fails_at_first n t c ≡ false)
+AtItsSide t c (Ok u) = Unit {0}
+AtItsSide t c (Err e) = ItsSide t c e.refusal e.side
 
 pub conflict-at_its_side : (t : Table) (room : ℕ) (c : Conflict) → AtItsSide t c (verdict (Q.Conflict c) t room)
 unfolding verdict conflict_node_checks
@@ -78,8 +83,8 @@ conflict-at_its_side t room c =
 
 -- the first side with 3, 4 and 6, else none
 abbrev pub AlwaysFirst : Verdict → Type 0
-AlwaysFirst W.Accepted = Unit {0}
-AlwaysFirst (W.Refused n s) = s ≡ pick (is_of_one_node n) First Neither
+AlwaysFirst (Ok u) = Unit {0}
+AlwaysFirst (Err e) = e.side ≡ pick (is_of_one_node e.refusal) First Neither
 
 pub virtual_always_first : (t : Table) (room : ℕ) (c : VirtualConflict) → AlwaysFirst (verdict (Q.VirtualConflict c) t room)
 unfolding verdict virtual_node_checks
@@ -106,8 +111,8 @@ virtual_always_first t room c =
     )
 
 abbrev pub NoSide : Verdict → Type 0
-NoSide W.Accepted = Unit {0}
-NoSide (W.Refused n s) = s ≡ Neither
+NoSide (Ok u) = Unit {0}
+NoSide (Err e) = e.side ≡ Neither
 
 pub other_no_side : (r : Request) → has_sides r ≡ false → (t : Table) (room : ℕ) → NoSide (verdict r t room)
 unfolding verdict expansion_node_checks

@@ -5,9 +5,9 @@ use Prim.Native.Nat.{ℕ, ◌<◌}
 use native.Mathlib.Decide.{dec_lt}
 use native.Mathlib.Omega.{arith}
 use lib.Dec.{T}
+use Rattle.std.specs.Prelude.{Ok}
 use Rattle.table.specs.Table.{Table, at}
 use Rattle.table.proofs.TableLaws.{at_out, table-ext}
-use Rattle.refusal.specs.declared.Verdict.TheVariants as W
 use Rattle.record.specs.declared.request.Request.{Request}
 use Rattle.rules.specs.Calls.{act_of, verdict}
 use Rattle.rules.specs.Concerns.{is_making}
@@ -55,7 +55,7 @@ module _ (t : Table) (w : Whole t) where
     pub done_after : Acted (InArea r t) (is_making r t) t t₂ (act_of r t) (act_of r t₂)
     done_after = request-acted t m w t₂ r a.three a.accepted alike_after slot_after
 
-    pub accepted_after : Whole t₂ → verdict r t₂ m ≡ W.Accepted
+    pub accepted_after : Whole t₂ → verdict r t₂ m ≡ Ok tt
     accepted_after v = sym (request-verdict t m w t₂ r a.three a.accepted (from_whole t w) (from_whole t₂ v) alike_after slot_after) ∙ a.accepted
 
 -- ---- either order

@@ -1,10 +1,9 @@
 -- What "in either order" and "in any order" say: requests that are apart, a list of them done one after another, and its
 -- reorderings.
-use Rattle.std.specs.Prelude.{◌≡◌, List, [], ◌∷◌, ℕ, T}
+use Rattle.std.specs.Prelude.{◌≡◌, List, [], ◌∷◌, ℕ, T, Ok}
 use Rattle.table.specs.Table.{Table}
 use Rattle.record.specs.declared.request.Request.{Request}
 use Rattle.record.specs.declared.answer.Record.{Record}
-use Rattle.refusal.specs.declared.Verdict.TheVariants as W
 use Rattle.rules.specs.Calls.{verdict, answered}
 use Rattle.rules.specs.Commands.{gives_commands}
 use Rattle.rules.specs.Concerns.{concerns, is_making}
@@ -14,7 +13,7 @@ use Rattle.rules.specs.Concerns.{concerns, is_making}
 -- one of the three, accepted on t with so much room for its commands
 pub record Asked (t : Table) (r : Request) (room : ℕ) : Type 0 where
   pub three : T (gives_commands r)
-  pub accepted : verdict r t room ≡ W.Accepted
+  pub accepted : verdict r t room ≡ Ok tt
 
 -- r and q concern no common node, and do not both make a blossom
 abbrev pub ApartIn : Table → Request → Request → Type 0
@@ -51,7 +50,7 @@ done_in_order (a ∷ rest) t = done_in_order rest (answered a.request a.room t).
 abbrev pub AcceptedInOrder : List Ask → Table → Type 0
 AcceptedInOrder [] t = Unit {0}
 AcceptedInOrder (a ∷ rest) t =
-    (verdict a.request t a.room ≡ W.Accepted) × AcceptedInOrder rest (answered a.request a.room t).table
+    (verdict a.request t a.room ≡ Ok tt) × AcceptedInOrder rest (answered a.request a.room t).table
 
 -- a request, and the commands that it gave
 pub record Given : Type 0 where

@@ -7,6 +7,7 @@ use Prim.Native.Nat.{ℕ, ◌≤◌}
 use native.Mathlib.Omega.{arith}
 use lib.Dec.{T, eqb}
 use borrow.Author.Tests.{eqb-false}
+use Rattle.std.specs.Prelude.{Ok, Err}
 use Rattle.lists.specs.Choice.{pick}
 use Rattle.slot.specs.declared.state.State.TheVariants as S
 use Rattle.slot.specs.State.{is_outer}
@@ -16,8 +17,7 @@ use Rattle.table.specs.Nodes.{is_blossom, is_defect}
 use Rattle.table.specs.Climb.{inside}
 use Rattle.refusal.specs.declared.Side.{Side}
 use Rattle.refusal.specs.declared.Refusal.{Refusal}
-use Rattle.refusal.specs.declared.Verdict.{Verdict}
-use Rattle.refusal.specs.declared.Verdict.TheVariants as W
+use Rattle.refusal.specs.Refusal.{Verdict, at_side}
 use Rattle.record.specs.declared.request.Conflict.{Conflict}
 use Rattle.record.specs.declared.request.VirtualConflict.{VirtualConflict}
 use Rattle.record.specs.declared.request.Expansion.{Expansion}
@@ -35,7 +35,7 @@ use Rattle.theorems_soundness.proofs.Climbing.{inside→}
 
 -- ---- "The first that applies is given": none applies
 
-passed : (b : Bool) (r : Refusal) (s : Side) (v : Verdict) → pick b (W.Refused r s) v ≡ W.Accepted → (b ≡ false) × (v ≡ W.Accepted)
+passed : (b : Bool) (r : Refusal) (s : Side) (v : Verdict) → pick b (Err (at_side r s)) v ≡ Ok tt → (b ≡ false) × (v ≡ Ok tt)
 passed true r s v e = let z : ◌≡◌ {A = ℕ} 0 1 = cc in absurd (omega arith)
 passed false r s v e = (refl, e)
 
@@ -44,7 +44,7 @@ abbrev pub AllPassed : List Check → Type 0
 AllPassed [] = Unit {0}
 AllPassed (c ∷ cs) = (c.applies ≡ false) × AllPassed cs
 
-pub all_passed : (cs : List Check) → first_of cs ≡ W.Accepted → AllPassed cs
+pub all_passed : (cs : List Check) → first_of cs ≡ Ok tt → AllPassed cs
 all_passed [] e = tt
 all_passed (c ∷ cs) e = let r = passed c.applies c.refusal c.side (first_of cs) e in (r.0, all_passed cs r.1)
 
@@ -81,7 +81,7 @@ pub record Acceptable (t : Table) (c : Conflict) : Type 0 where
   pub not_minus_2 : (seen t c.node_2.0).state ≢ S.Shrink
   pub slot : (makes_blossom t c.node_1.0 c.node_2.0 && lacks_blossom_slot t) ≡ false
 
-pub acceptable : (t : Table) (room : ℕ) (c : Conflict) → verdict (Q.Conflict c) t room ≡ W.Accepted → Acceptable t c
+pub acceptable : (t : Table) (room : ℕ) (c : Conflict) → verdict (Q.Conflict c) t room ≡ Ok tt → Acceptable t c
 unfolding verdict conflict_node_checks
 acceptable t room c e =
     let x = c.node_1.0 in
@@ -116,7 +116,7 @@ pub record AcceptableVirtual (t : Table) (c : VirtualConflict) : Type 0 where
   pub virtual : c.virtual_vertex.0 ≢ no_vertex
   pub grows : (seen t c.node.0).state ≡ S.Grow
 
-pub acceptable_virtual : (t : Table) (room : ℕ) (c : VirtualConflict) → verdict (Q.VirtualConflict c) t room ≡ W.Accepted → AcceptableVirtual t c
+pub acceptable_virtual : (t : Table) (room : ℕ) (c : VirtualConflict) → verdict (Q.VirtualConflict c) t room ≡ Ok tt → AcceptableVirtual t c
 unfolding verdict virtual_node_checks
 acceptable_virtual t room c e =
     let x = c.node.0 in
@@ -139,7 +139,7 @@ pub record AcceptableExpansion (t : Table) (e : Expansion) : Type 0 where
   pub blossom : t.begin ≤ e.node.0
   pub shrinks : (at t e.node.0).state ≡ S.Shrink
 
-pub acceptable_expansion : (t : Table) (room : ℕ) (e : Expansion) → verdict (Q.Expansion e) t room ≡ W.Accepted → AcceptableExpansion t e
+pub acceptable_expansion : (t : Table) (room : ℕ) (e : Expansion) → verdict (Q.Expansion e) t room ≡ Ok tt → AcceptableExpansion t e
 unfolding verdict expansion_node_checks
 acceptable_expansion t room e a =
     let n = e.node.0 in

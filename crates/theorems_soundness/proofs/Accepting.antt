@@ -5,6 +5,7 @@ use mathlib.Core.Bool.{Bool, true, false, not, ◌&&◌}
 use Prim.Native.Nat.{ℕ, zero, suc, ◌+◌, ◌≤◌}
 use native.Mathlib.Omega.{arith}
 use lib.Dec.{T, eqb, ltb}
+use Rattle.std.specs.Prelude.{Ok}
 use Rattle.lists.specs.Choice.{pick}
 use Rattle.slot.specs.declared.number.Node.{Node}
 use Rattle.slot.specs.declared.state.State.TheVariants as S
@@ -24,7 +25,6 @@ use Rattle.rules.specs.Trees.{is_unloaded, loaded, seen, root_within, same_tree}
 use Rattle.rules.specs.Matching.{temporary_match_virtual}
 use Rattle.rules.specs.Conflict.{conflict_link, blossom_in_tree, resolved, conflict, freed, virtual_conflict}
 use Rattle.rules.specs.Blossom.{lacks_blossom_slot}
-use Rattle.refusal.specs.declared.Verdict.TheVariants as W
 use Rattle.rules.specs.Refusals.{makes_blossom}
 use Rattle.rules.specs.Calls.{verdict}
 use Rattle.theorems_soundness.specs.FactsOfBlossoms.{DefectInside}
@@ -166,7 +166,7 @@ pub record BothLoaded (t : Table) (x y : ℕ) : Type 0 where
 pub both-loaded :
     (t : Table) (room : ℕ) (c : Conflict)
     → Whole t
-    → verdict (Q.Conflict c) t room ≡ W.Accepted
+    → verdict (Q.Conflict c) t room ≡ Ok tt
     → BothLoaded (loaded c.node_2.0 (loaded c.node_1.0 t)) c.node_1.0 c.node_2.0
 both-loaded t room c w e =
     let ok = acceptable t room c e in
@@ -179,7 +179,7 @@ both-loaded t room c w e =
     }
 
 -- every row, if making a blossom keeps a sound table sound
-pub conflict_keeps_by : (t : Table) (room : ℕ) (c : Conflict) → Whole t → verdict (Q.Conflict c) t room ≡ W.Accepted → BlossomKeeps c → Whole (conflict c t).table
+pub conflict_keeps_by : (t : Table) (room : ℕ) (c : Conflict) → Whole t → verdict (Q.Conflict c) t room ≡ Ok tt → BlossomKeeps c → Whole (conflict c t).table
 conflict_keeps_by t room c w e h =
     let ok = acceptable t room c e in
     conflict_whole t c w ok (λ o. h (loaded c.node_2.0 (loaded c.node_1.0 t)) o (slot_left t c w ok (makes t c w ok o)))
@@ -188,7 +188,7 @@ conflict_keeps_by t room c w e h =
 pub conflict_keeps :
     (t : Table) (room : ℕ) (c : Conflict)
     → Whole t
-    → verdict (Q.Conflict c) t room ≡ W.Accepted
+    → verdict (Q.Conflict c) t room ≡ Ok tt
     → ¬ T (makes_blossom t c.node_1.0 c.node_2.0)
     → Whole (conflict c t).table
 conflict_keeps t room c w e d = let ok = acceptable t room c e in conflict_whole t c w ok (λ o. absurd (d (makes t c w ok o)))
@@ -201,7 +201,7 @@ virtual-conflict-table :
 unfolding virtual_conflict change ◌then◌ look
 virtual-conflict-table t c = refl
 
-pub virtual_keeps : (t : Table) (room : ℕ) (c : VirtualConflict) → Whole t → verdict (Q.VirtualConflict c) t room ≡ W.Accepted → Whole (virtual_conflict c t).table
+pub virtual_keeps : (t : Table) (room : ℕ) (c : VirtualConflict) → Whole t → verdict (Q.VirtualConflict c) t room ≡ Ok tt → Whole (virtual_conflict c t).table
 virtual_keeps t room c w e =
     let x = c.node.0 in
     let ok = acceptable_virtual t room c e in

@@ -4,13 +4,13 @@ use mathlib.Core.Path.{◌≡◌}
 use mathlib.Core.Logic.{◌≢◌}
 use Prim.Native.Nat.{ℕ, ◌≤◌}
 use lib.Dec.{T}
+use Rattle.std.specs.Prelude.{Ok}
 use Rattle.slot.specs.declared.state.State.TheVariants as S
 use Rattle.slot.specs.Number.{none}
 use Rattle.slot.specs.Slot.{Link}
 use Rattle.table.specs.Table.{Table, at, Full}
 use Rattle.table.specs.Nodes.{present, outer}
 use Rattle.table.specs.Climb.{inside_within, inside, outer_blossom_within, outer_blossom, second_outer_within, second_outer_blossom}
-use Rattle.refusal.specs.declared.Verdict.TheVariants as W
 use Rattle.record.specs.declared.request.Expansion.{Expansion}
 use Rattle.record.specs.declared.request.Request.TheVariants as Q
 use Rattle.rules.specs.Act.{alter}
@@ -101,7 +101,7 @@ module _ (t : Table) (full : Full t) (s : T (sound t)) where
   matching-subtree-budget n g = subtree_budget t n (to_whole t full s) g
 
   -- taking a blossom apart, k for every budget
-  pub expansion_budget_suffices : (room : ℕ) (e : Expansion) → verdict (Q.Expansion e) t room ≡ W.Accepted → (k : ℕ) → 256 ≤ k → expansion_within k e.node.0 t ≡ expansion e.node.0 t
+  pub expansion_budget_suffices : (room : ℕ) (e : Expansion) → verdict (Q.Expansion e) t room ≡ Ok tt → (k : ℕ) → 256 ≤ k → expansion_within k e.node.0 t ≡ expansion e.node.0 t
   expansion_budget_suffices room e = expansion-budget t room e (to_whole t full s)
 
 -- making a blossom, k for every budget

@@ -6,6 +6,7 @@ use mathlib.Core.List.{List, [], ◌∷◌}
 use Prim.Native.Nat.{ℕ, ◌≤◌}
 use native.Mathlib.Omega.{arith}
 use lib.Dec.{T}
+use Rattle.std.specs.Prelude.{Ok}
 use Rattle.slot.specs.declared.state.State.TheVariants as S
 use Rattle.slot.specs.Number.{none}
 use Rattle.slot.specs.Slot.{empty_slot}
@@ -13,7 +14,6 @@ use Rattle.table.specs.Table.{Table, at, put, Full}
 use Rattle.table.proofs.TableLaws.{at-put-same, at-put_other, put_full}
 use Rattle.table.specs.Nodes.{outer, inner}
 use Rattle.table.specs.Climb.{second_outer_blossom}
-use Rattle.refusal.specs.declared.Verdict.TheVariants as W
 use Rattle.record.specs.declared.request.Expansion.{Expansion}
 use Rattle.record.specs.declared.request.Request.TheVariants as Q
 use Rattle.rules.specs.Act.{say, change, ◌then◌, look, read, alter}
@@ -205,5 +205,5 @@ module _ (t : Table) (w : Whole t) (b : ℕ) (blossom : t.begin ≤ b) (shrinks 
 
 -- ---- an accepted request
 
-pub expansion_keeps : (t : Table) (room : ℕ) (e : Expansion) → Whole t → verdict (Q.Expansion e) t room ≡ W.Accepted → Whole (expansion e.node.0 t).table
+pub expansion_keeps : (t : Table) (room : ℕ) (e : Expansion) → Whole t → verdict (Q.Expansion e) t room ≡ Ok tt → Whole (expansion e.node.0 t).table
 expansion_keeps t room e w a = let r = acceptable_expansion t room e a in blossom_expanded t w e.node.0 r.blossom r.shrinks

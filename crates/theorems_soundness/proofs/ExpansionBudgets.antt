@@ -7,13 +7,13 @@ use Prim.Native.Nat.{ℕ, zero, suc, ◌+◌, ◌%◌, ◌≤◌}
 use native.Mathlib.Omega.{arith}
 use lib.Dec.{T}
 use lib.ListN.{length}
+use Rattle.std.specs.Prelude.{Ok}
 use Rattle.lists.specs.Choice.{pick}
 use Rattle.slot.specs.declared.state.State.TheVariants as S
 use Rattle.slot.specs.Slot.{Link, empty_slot}
 use Rattle.table.specs.Table.{Table, at, put}
 use Rattle.table.specs.Nodes.{present, outer, inner}
 use Rattle.table.specs.Climb.{second_outer_within, second_outer_blossom}
-use Rattle.refusal.specs.declared.Verdict.TheVariants as W
 use Rattle.record.specs.declared.request.Expansion.{Expansion}
 use Rattle.record.specs.declared.request.Request.TheVariants as Q
 use Rattle.rules.specs.Act.{Act, say, change, ◌then◌, look, read, choose, alter, expand}
@@ -159,7 +159,7 @@ module _ (t : Table) (w : Whole t) (b : ℕ) (blossom : t.begin ≤ b) (shrinks 
 pub expansion-budget :
     (t : Table) (room : ℕ) (e : Expansion)
     → Whole t
-    → verdict (Q.Expansion e) t room ≡ W.Accepted
+    → verdict (Q.Expansion e) t room ≡ Ok tt
     → (k : ℕ)
     → 256 ≤ k
     → expansion_within k e.node.0 t ≡ expansion e.node.0 t

@@ -1,7 +1,6 @@
 -- The search for the first fault: rule by rule, and of each rule slot by slot.
 use mathlib.Core.Path.{◌≡◌, refl, sym, ap, subst, ◌∙◌}
 use mathlib.Core.Logic.{◌⊎◌, inl, inr}
-use mathlib.Core.Bool.{Bool, true, false}
 use mathlib.Core.List.{List, [], ◌∷◌}
 use Prim.Native.Nat.{ℕ, zero, suc, ◌+◌, ◌≤◌, ◌<◌}
 use native.Mathlib.Decide.{dec_lt}
@@ -11,7 +10,7 @@ use Rattle.table.specs.Table.{Table}
 use Rattle.rules.specs.declared.fault.Rule.{Rule}
 use Rattle.rules.specs.declared.fault.Rule.TheVariants.{S1, S2, S3, S4, S5, S6, S7, S8}
 use Rattle.rules.specs.declared.fault.Fault.{Fault}
-use Rattle.rules.specs.declared.fault.Fault.TheVariants.{Nowhere, At}
+use Rattle.std.specs.Prelude.{Option, None, Some}
 use Rattle.rules.specs.Walk.{all_below}
 use Rattle.rules.specs.Sound.{holds, rules, all_hold, sound}
 use Rattle.rules.specs.Fault.{rule_number, no_fault, fault_at, lowest_fault, or_else, first_fault_of, first_fault}
@@ -21,20 +20,16 @@ use Rattle.theorems_soundness.proofs.SoundParts.{sound→rule}
 
 -- ---- faults and rules by their parts
 
-abbrev rule_in : Fault → Rule
-rule_in Nowhere = S1
-rule_in (At r n) = r
+abbrev rule_in : Option Fault → Rule
+rule_in None = S1
+rule_in (Some f) = f.rule
 
-abbrev slot_in : Fault → ℕ
-slot_in Nowhere = 0
-slot_in (At r n) = n.0
-
-abbrev is_found : Fault → Bool
-is_found Nowhere = false
-is_found (At r n) = true
+abbrev slot_in : Option Fault → ℕ
+slot_in None = 0
+slot_in (Some f) = f.slot.0
 
 nothing_found : {A : Type 0} (r : Rule) (n : ℕ) → no_fault ≡ fault_at r n → A
-nothing_found r n e = absurd (subst (λ (f : Fault). T (is_found f)) (sym e) tt)
+nothing_found r n e = absurd (cc)
 
 -- the rule that has a number
 abbrev numbered : ℕ → Rule
@@ -146,7 +141,7 @@ module _ (t : Table) where
   Follow b (r ∷ rs) = (rule_number r ≡ suc b) × Follow (suc b) rs
 
   -- of these rules the first that fails, and what the search gives
-  record First (b : ℕ) (f : Fault) : Type 0 where
+  record First (b : ℕ) (f : Option Fault) : Type 0 where
     rule : Rule
     at : ℕ
     given : f ≡ fault_at rule at
@@ -166,7 +161,7 @@ module _ (t : Table) where
         record {
           rule = r;
           at = w.at;
-          given = ap (λ (f : Fault). or_else f (first_fault_of rs t)) w.given;
+          given = ap (λ (f : Option Fault). or_else f (first_fault_of rs t)) w.given;
           after = omega arith;
           slot = w.to;
           fails = w.fails;
@@ -176,7 +171,7 @@ module _ (t : Table) where
 
     first_on : lowest_fault r t 256 0 ≡ no_fault → first_fault_of (r ∷ rs) t ≡ first_fault_of rs t
     unfolding first_fault_of
-    first_on e = ap (λ (f : Fault). or_else f (first_fault_of rs t)) e
+    first_on e = ap (λ (f : Option Fault). or_else f (first_fault_of rs t)) e
 
     all_hold_lem : HoldsFrom r 256 0 → T (all_hold rs t) → T (all_hold (r ∷ rs) t)
     unfolding all_hold

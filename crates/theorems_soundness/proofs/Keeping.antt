@@ -1,9 +1,9 @@
 -- Every request, accepted or refused, keeps a sound table sound: the rows without a blossom, making one, taking one apart, reset.
 use mathlib.Core.Path.{◌≡◌, refl}
 use Prim.Native.Nat.{ℕ}
+use Rattle.refusal.specs.Refusal.{Verdict}
+use Rattle.std.specs.Prelude.{Ok, Err}
 use Rattle.table.specs.Table.{Table}
-use Rattle.refusal.specs.declared.Verdict.{Verdict}
-use Rattle.refusal.specs.declared.Verdict.TheVariants as W
 use Rattle.record.specs.declared.request.Conflict.{Conflict}
 use Rattle.record.specs.declared.request.Request.{Request}
 use Rattle.record.specs.declared.request.Request.TheVariants as Q
@@ -16,10 +16,10 @@ use Rattle.theorems_soundness.proofs.Accepting.{conflict_keeps_by, virtual_keeps
 use Rattle.theorems_soundness.proofs.Expanding.{expansion_keeps}
 use Rattle.theorems_soundness.proofs.Resetting.{reset_keeps}
 
-pub conflict_keeps : (t : Table) (room : ℕ) (c : Conflict) → Whole t → verdict (Q.Conflict c) t room ≡ W.Accepted → Whole (conflict c t).table
+pub conflict_keeps : (t : Table) (room : ℕ) (c : Conflict) → Whole t → verdict (Q.Conflict c) t room ≡ Ok tt → Whole (conflict c t).table
 conflict_keeps t room c w e = conflict_keeps_by t room c w e (blossom_keeps c.node_1.0 c.node_2.0 (conflict_link c))
 
-pub act_keeps : (r : Request) (room : ℕ) (t : Table) → Whole t → verdict r t room ≡ W.Accepted → Whole (act_of r t).table
+pub act_keeps : (r : Request) (room : ℕ) (t : Table) → Whole t → verdict r t room ≡ Ok tt → Whole (act_of r t).table
 unfolding change list
 act_keeps (Q.Conflict c) room t w e = conflict_keeps t room c w e
 act_keeps (Q.VirtualConflict c) room t w e = virtual_keeps t room c w e
@@ -29,8 +29,8 @@ act_keeps Q.List room t w e = w
 
 by_verdict : (r : Request) (room : ℕ) (t : Table) → Whole t → (v : Verdict) → verdict r t room ≡ v → Whole (act_by v r t).table
 unfolding skip
-by_verdict r room t w W.Accepted e = act_keeps r room t w e
-by_verdict r room t w (W.Refused n s) e = w
+by_verdict r room t w (Ok u) e = act_keeps r room t w e
+by_verdict r room t w (Err x) e = w
 
 pub answered_keeps : (r : Request) (room : ℕ) (t : Table) → Whole t → Whole (answered r room t).table
 unfolding answered

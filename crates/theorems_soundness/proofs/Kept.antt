@@ -2,9 +2,9 @@
 use mathlib.Core.Path.{◌≡◌}
 use Prim.Native.Nat.{ℕ, ◌≤◌}
 use lib.Dec.{T}
+use Rattle.std.specs.Prelude.{Ok}
 use Rattle.table.specs.Table.{Table, Full}
 use Rattle.table.specs.Making.{fresh, emptied}
-use Rattle.refusal.specs.declared.Verdict.TheVariants as W
 use Rattle.record.specs.declared.request.Conflict.{Conflict}
 use Rattle.record.specs.declared.request.VirtualConflict.{VirtualConflict}
 use Rattle.record.specs.declared.request.Expansion.{Expansion}
@@ -29,13 +29,13 @@ made_sound begin low high = from_whole (fresh begin) (fresh_whole begin low high
 
 module _ (t : Table) (full : Full t) (s : T (sound t)) where
   -- each rule, where the request is accepted
-  pub conflict_keeps_sound : (room : ℕ) (c : Conflict) → verdict (Q.Conflict c) t room ≡ W.Accepted → T (sound (conflict c t).table)
+  pub conflict_keeps_sound : (room : ℕ) (c : Conflict) → verdict (Q.Conflict c) t room ≡ Ok tt → T (sound (conflict c t).table)
   conflict_keeps_sound room c e = from_whole (conflict c t).table (conflict_keeps t room c (to_whole t full s) e)
 
-  pub virtual_conflict_keeps_sound : (room : ℕ) (c : VirtualConflict) → verdict (Q.VirtualConflict c) t room ≡ W.Accepted → T (sound (virtual_conflict c t).table)
+  pub virtual_conflict_keeps_sound : (room : ℕ) (c : VirtualConflict) → verdict (Q.VirtualConflict c) t room ≡ Ok tt → T (sound (virtual_conflict c t).table)
   virtual_conflict_keeps_sound room c e = from_whole (virtual_conflict c t).table (virtual_keeps t room c (to_whole t full s) e)
 
-  pub expansion_keeps_sound : (room : ℕ) (e : Expansion) → verdict (Q.Expansion e) t room ≡ W.Accepted → T (sound (expansion e.node.0 t).table)
+  pub expansion_keeps_sound : (room : ℕ) (e : Expansion) → verdict (Q.Expansion e) t room ≡ Ok tt → T (sound (expansion e.node.0 t).table)
   expansion_keeps_sound room e a = from_whole (expansion e.node.0 t).table (expansion_keeps t room e (to_whole t full s) a)
 
   pub reset_keeps_sound : T (sound (emptied t))

@@ -6,6 +6,3 @@ use Rattle.fault.proofs.lowest_fault.Given as goal
 
 abbrev pub invariant-loop-i : goal.invariant-loop-i
 invariant-loop-i l = lowest_fault l.rule (table_of l.t) (256 - l.i) l.i ≡ lowest_fault l.rule (table_of l.t) 256 0
-
-abbrev pub decreases-loop-i : goal.decreases-loop-i
-decreases-loop-i l = 256 - l.i

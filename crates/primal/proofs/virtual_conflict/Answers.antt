@@ -1,13 +1,13 @@
-use Rattle.std.proofs.Common.{sym}
-use Rattle.std.proofs.Math.Nat.{sub-zero}
-use Rattle.outcome.proofs.Outcomes.{refused_by, same_outcome}
-use Rattle.outcome.proofs.Verdicts.{unsound_verdict, sound-verdict}
+use Rattle.std.proofs.lemmas.Result.{err_from_is_err_and}
+use Rattle.primal.proofs.Checked.{refused_unsound, called-sound, sound_words}
 use Rattle.primal.proofs.virtual_conflict.Goals as goal
 
-pub returns-then-not-is_sound : goal.returns-then-not-is_sound
-returns-then-not-is_sound c = refused_by _ _ _ _ _ _ _ (unsound_verdict _ _ _ (sym c.if-not-is_sound.ensures))
+pub returns-in_err-check : goal.returns-in_err-check
+returns-in_err-check c =
+    let p = err_from_is_err_and c.from_residual.result c.from_residual.ensures.1 in
+    rw (p.1, p.2) (refused_unsound _ _ _ _ c.in_err-check.ensures)
 
 pub returns : goal.returns
 returns c =
-    let s = sym c.if-not-is_sound.ensures in
-    same_outcome _ _ _ _ _ _ _ _ _ (sound-verdict _ _ _ s) (rw sub-zero at c.virtual_conflict.ensures)
+    let s = sound_words c.in_ok-check.field-0 _ c.in_ok-check.ensures in
+    called-sound _ _ _ _ _ _ s c.virtual_conflict.ensures

@@ -1,18 +1,11 @@
 use Rattle.std.proofs.Common.{◌∙◌}
-use Rattle.outcome.proofs.Outcomes.{refused_by, accepted-by, judged_no_room, judged_nodes, expansion_judged}
+use Rattle.std.proofs.lemmas.Result.{err_from_is_err_and}
+use Rattle.outcome.proofs.Outcomes.{refused_by, judged_nodes, expansion_judged}
 use Rattle.request_expansion.proofs.expand.Goals as goal
 
-pub returns-then-room-lt-COMMAND_ROOM : goal.returns-then-room-lt-COMMAND_ROOM
-returns-then-room-lt-COMMAND_ROOM c =
-    refused_by _ _ _ _ _ _ _ (expansion_judged _ _ _ ∙ judged_no_room _ _ _ c.room.ensures c.if-room-lt-COMMAND_ROOM.true)
-
-pub returns-in-Accepted : goal.returns-in-Accepted
-returns-in-Accepted c =
-    accepted-by _ _ _ _ _ _ _ _
-    (expansion_judged _ _ _ ∙ judged_nodes _ _ _ _ c.room.ensures c.if-room-lt-COMMAND_ROOM.false c.in-Accepted.ensures)
-    c.resolve_expansion.ensures
-
-pub returns-in-Refused : goal.returns-in-Refused
-returns-in-Refused c =
-    refused_by _ _ _ _ _ _ _
-    (expansion_judged _ _ _ ∙ judged_nodes _ _ _ _ c.room.ensures c.if-room-lt-COMMAND_ROOM.false c.in-Refused.ensures)
+pub returns-in_err-judge_expansion : goal.returns-in_err-judge_expansion
+returns-in_err-judge_expansion c =
+    let p = err_from_is_err_and c.from_residual.result c.from_residual.ensures.1 in
+    rw (p.1, p.2)
+    (refused_by _ _ _ _ _ _
+    (expansion_judged _ _ _ ∙ judged_nodes _ _ _ _ c.room.ensures c.if-room-lt-COMMAND_ROOM.false c.in_err-judge_expansion.ensures))

@@ -9,12 +9,12 @@ pub overflow_mul-needed : goal.overflow_mul-needed
 overflow_mul-needed c = omega (arith, found_bound _ _ _ c.defects_below-needed.ensures)
 
 pub returns-then-room-needed : goal.returns-then-room-needed
-returns-then-room-needed c s =
-    let found = room-asked _ (slots_length _) s _ _ c.count_defects-defects.ensures c.defects_below-needed.ensures in
-    refused_by _ _ _ _ _ _ _ (list_no_room _ _ _ _ _ found c.room.ensures refl c.if-room-needed.true)
+returns-then-room-needed c =
+    let found = room-asked _ (slots_length _) c.args.t.is_sound _ _ c.count_defects-defects.ensures c.defects_below-needed.ensures in
+    rw c.into.ensures (refused_by _ _ _ _ _ _ (list_no_room _ _ _ _ _ found c.room.ensures refl c.if-room-needed.true))
 
 pub returns : goal.returns
-returns c s =
-    let found = room-asked _ (slots_length _) s _ _ c.count_defects-defects.ensures c.defects_below-needed.ensures in
+returns c =
+    let found = room-asked _ (slots_length _) c.args.t.is_sound _ _ c.count_defects-defects.ensures c.defects_below-needed.ensures in
     accepted-by _ _ _ _ _ _ _ _ (list-room _ _ _ _ _ found c.room.ensures refl c.if-room-needed.false)
-    (list-world _ _ _ _ _ (all_listed _ (slots_length _) s _ _ c.list_given.ensures))
+    (list-world _ _ _ _ _ (all_listed _ (slots_length _) c.args.t.is_sound _ _ c.list_at.ensures))

@@ -5,7 +5,4 @@ use Rattle.table_making.specs.Cleared.{cleared}
 use Rattle.table_making.proofs.clear_slots.Given as goal
 
 abbrev pub invariant-loop-i : goal.invariant-loop-i
-invariant-loop-i l = cleared (l.to - l.i) l.i (table_of l.t) ≡ cleared (l.to - l.initial.i) l.initial.i (table_of l.initial.t)
-
-abbrev pub decreases-loop-i : goal.decreases-loop-i
-decreases-loop-i l = l.to - l.i
+invariant-loop-i l = cleared (l.to - l.i) l.i (table_of l.t) ≡ cleared (l.to - l.from) l.from (table_of l.initial.t)

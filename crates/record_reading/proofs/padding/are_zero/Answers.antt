@@ -1,10 +1,10 @@
-use Rattle.std.proofs.Common.{sym, ◌∙◌, arith}
-use Rattle.record_reading.proofs.PaddingLaws.{zeros_stop, zeros_more}
+use Rattle.std.proofs.Common.{◌==◌, ◌∙◌, rules}
+use Rattle.std.proofs.lemmas.Iterator.{YieldsList-from_slice}
+use Rattle.std.proofs.lemmas.Iterator.Search.{all_from_yields_List}
+use Rattle.record_reading.proofs.PaddingLaws.{all_zero}
 use Rattle.record_reading.proofs.padding.are_zero.Goals as goal
 
-pub returns-then-tape-i-ne0 : goal.returns-then-tape-i-ne0
-returns-then-tape-i-ne0 c =
-    sym (zeros_stop _ _ _ c.loop-i-test.true c.requires (λ e. omega (arith, e, c.if-tape-i-ne0.true))) ∙ c.loop-i.invariant
-
-pub loop-i-preserved : goal.loop-i-preserved
-loop-i-preserved c = zeros_more _ _ _ c.loop-i-test.true c.requires c.if-tape-i-ne0.false ∙ c.loop-i.invariant
+pub returns : goal.returns
+returns c =
+    all_from_yields_List (λ b. b == 0) _ _ _ c.all.ensures.ran (YieldsList-from_slice c.args.bytes.now cc) (λ x b q k. search rules)
+    ∙ all_zero c.args.bytes.now

@@ -1,10 +1,8 @@
-use Rattle.std.proofs.Common.{◌≡◌}
+use Rattle.std.proofs.Common.{◌≡◌, ◌-◌}
 use Rattle.table.specs.Words.{table_of}
-use Rattle.rules.specs.Trees.{root_within}
+use Rattle.rules.specs.Trees.{root}
+use Rattle.request_judging.proofs.TreesSteps.{root_tested}
 use Rattle.request_judging.proofs.trees.root_of.Given as goal
 
-abbrev pub invariant-loop-above : goal.invariant-loop-above
-invariant-loop-above l = root_within l.steps_left (table_of l.t) l.here.0 ≡ root_within 256 (table_of l.t) l.initial.here.0
-
-abbrev pub decreases-loop-above : goal.decreases-loop-above
-decreases-loop-above l = l.steps_left
+abbrev pub invariant-loop : goal.invariant-loop
+invariant-loop l = root_tested (257 - l.counter) (table_of l.t) l.here.0 ≡ root (table_of l.t) l.fn.n.0

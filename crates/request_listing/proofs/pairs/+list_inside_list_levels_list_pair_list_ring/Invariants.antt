@@ -1,8 +1,9 @@
 -- Every call goes with a budget that falls; `list_inside` passes its own on to `list_levels`. What a walk has still to list, written from
 -- where it stands, is what its call was asked for.
-use Rattle.std.proofs.Common.{◌≡◌, ◌+◌, ◌*◌, ◌≤◌}
+use Rattle.std.proofs.Common.{◌≡◌, ◌+◌, ◌*◌}
 use Rattle.table.specs.Words.{table_of}
-use Rattle.record.specs.Writing.{out_of, write_all}
+use Rattle.record.specs.Writing.{write_all}
+use Rattle.record_fields.specs.Outputs.{out_at, SameBytes}
 use Rattle.rules.specs.Listing.{levels_listed, ring_listed}
 use Rattle.request_listing.proofs.pairs.+list_inside_list_levels_list_pair_list_ring.Given as goal
 
@@ -22,22 +23,16 @@ abbrev pub invariant-list_levels-loop-still : goal.invariant-list_levels-loop-st
 invariant-list_levels-loop-still l =
     record {
       listed :
-          write_all (out_of l.out l.end) (levels_listed l.still l.b.0 l.here.0 (table_of l.t))
-          ≡ write_all (out_of l.initial.out l.initial.end) (levels_listed l.initial.still l.b.0 l.initial.here.0 (table_of l.t));
-      within : l.still ≤ l.initial.still;
+          write_all (out_at l.out) (levels_listed l.still l.b.0 l.here.0 (table_of l.t))
+          ≡ write_all (out_at l.initial.out) (levels_listed l.left l.b.0 l.fn.touched.0 (table_of l.t));
+      same : SameBytes l.initial.out l.out;
     }
-
-abbrev pub decreases-list_levels-loop-still : goal.decreases-list_levels-loop-still
-decreases-list_levels-loop-still l = l.still
 
 abbrev pub invariant-list_ring-loop-still : goal.invariant-list_ring-loop-still
 invariant-list_ring-loop-still l =
     record {
       listed :
-          write_all (out_of l.out l.end) (ring_listed l.still l.touched.0 l.here.0 (table_of l.t))
-          ≡ write_all (out_of l.initial.out l.initial.end) (ring_listed l.initial.still l.touched.0 l.initial.here.0 (table_of l.t));
-      within : l.still ≤ l.initial.still;
+          write_all (out_at l.out) (ring_listed l.still l.touched.0 l.here.0 (table_of l.t))
+          ≡ write_all (out_at l.initial.out) (ring_listed l.left l.touched.0 l.fn.n.0 (table_of l.t));
+      same : SameBytes l.initial.out l.out;
     }
-
-abbrev pub decreases-list_ring-loop-still : goal.decreases-list_ring-loop-still
-decreases-list_ring-loop-still l = l.still

@@ -8,6 +8,3 @@ use Rattle.sound_walks.proofs.children.lists_hold.Given as goal
 abbrev pub invariant-loop-i : goal.invariant-loop-i
 invariant-loop-i l =
     sweep (list_step (table_of l.t)) (l.to - l.i) l.i l.seen ≡ sweep (list_step (table_of l.t)) (l.to - l.from) l.from l.fn.seen
-
-abbrev pub decreases-loop-i : goal.decreases-loop-i
-decreases-loop-i l = l.to - l.i

@@ -9,6 +9,3 @@ abbrev pub invariant-loop-i : goal.invariant-loop-i
 invariant-loop-i l =
     sweep (way_step (table_of l.t) l.listed) (l.to - l.i) l.i l.deep
     ≡ sweep (way_step (table_of l.t) l.listed) (l.to - l.from) l.from l.fn.deep
-
-abbrev pub decreases-loop-i : goal.decreases-loop-i
-decreases-loop-i l = l.to - l.i

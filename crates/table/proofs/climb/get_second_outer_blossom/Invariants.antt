@@ -1,10 +1,8 @@
-use Rattle.std.proofs.Common.{◌≡◌}
+use Rattle.std.proofs.Common.{◌≡◌, ◌-◌}
 use Rattle.table.specs.Words.{table_of}
 use Rattle.table.specs.Climb.{second_outer_within}
 use Rattle.table.proofs.climb.get_second_outer_blossom.Given as goal
 
-abbrev pub invariant-loop-left : goal.invariant-loop-left
-invariant-loop-left l = second_outer_within l.left (table_of l.t) l.below.0 l.here.0 ≡ second_outer_within 256 (table_of l.t) l.initial.below.0 l.initial.here.0
-
-abbrev pub decreases-loop-left : goal.decreases-loop-left
-decreases-loop-left l = l.left
+abbrev pub invariant-loop : goal.invariant-loop
+invariant-loop l =
+    second_outer_within (256 - l.counter) (table_of l.t) l.below.0 l.here.0 ≡ second_outer_within 256 (table_of l.t) l.fn.n.0 l.fn.n.0

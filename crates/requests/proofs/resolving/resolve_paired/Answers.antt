@@ -1,9 +1,0 @@
-use Rattle.std.proofs.Common.{sym}
-use Rattle.requests.proofs.ConflictsSteps.{no_step}
-use Rattle.requests.proofs.resolving.resolve_paired.Goals as goal
-
-pub returns-in-Paired : goal.returns-in-Paired
-returns-in-Paired c = rw (sym c.in-Paired.ensures) (no_step _)
-
-pub returns-in-Virtual : goal.returns-in-Virtual
-returns-in-Virtual c = rw (sym c.in-Virtual.ensures) (no_step _)

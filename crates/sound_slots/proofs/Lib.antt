@@ -1,2 +1,0 @@
-pub mod LinksSteps
-pub mod StatesSteps
