@@ -115,7 +115,7 @@ uint16_t boltclover_sound(const uint16_t *table);
 /* Why a table is damaged. 0 and *slot 0 exactly if it is sound; otherwise the first of the rules S1 to S8 (docs/RULES-IN-WORDS.md) that
    is broken, 1 to 8, and the smallest slot that breaks it. begin and the counts (S1) go by slot 0, a child list (S5) by its owner, a ring
    (S6) by its blossom, while the link of a ring's node, and a child that it should not have (S6 too), go by that node; all else by the slot
-   whose field is wrong. No refusals. On a damaged table it takes 16 to 54 times as long as boltclover_sound, in the cases of docs/SPEED.md:
+   whose field is wrong. No refusals. On a damaged table it takes 7 to 42 times as long as boltclover_sound, in the cases of docs/SPEED.md:
    it is for people, and not for the way of a request. A table kept in a file (its words, two bytes each, the low one first) is explained in
    words by `./boltclover fault FILE`. */
 uint16_t boltclover_fault(const uint16_t *table, uint16_t *slot);

@@ -20,11 +20,11 @@ pub fn take_turn(t: &mut Table, tape: &[u8], out: &mut [u8]) -> Turn
                 unread: run.rest.len(),
             }
         }
-        Err(_) => Turn {
+        Err(refused) => Turn {
             end: TurnEnd::NotSound,
             handled: 0,
             written: 0,
-            unread: tape.len(),
+            unread: refused.rest.len(),
         },
     }
 }

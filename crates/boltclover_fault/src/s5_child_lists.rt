@@ -4,7 +4,7 @@ use crate::unmarked::first_unmarked;
 use slot::Node;
 use sound_walks::children;
 use std::fmt;
-use table::{Marks, Table};
+use table::Table;
 
 #[derive(Clone, Copy)]
 pub enum Wrong {
@@ -71,7 +71,7 @@ fn wrong_list(t: &Table, n: Node) -> Option<Wrong> {
 }
 
 pub fn find(t: &Table, n: Node) -> Option<Wrong> {
-    let mut listed = Marks::none();
+    let mut listed = [0u8; 256];
     if !children::list_step(t, &mut listed, n) {
         return wrong_list(t, n);
     }

@@ -6,7 +6,7 @@ use crate::unmarked::first_unmarked;
 use fault_rules::s6_rings;
 use slot::Node;
 use std::fmt;
-use table::{Marks, Table};
+use table::Table;
 
 #[derive(Clone, Copy)]
 pub enum Wrong {
@@ -89,7 +89,7 @@ fn wrong_ring(t: &Table, b: Node) -> Wrong {
     if first.is_none() {
         return Wrong::NoRing;
     }
-    let mut seen = Marks::none();
+    let mut seen = [0u8; 256];
     let Some(count) = s6_rings::walk_ring(t, &mut seen, b, first) else {
         return wrong_way_round(t, b, first);
     };

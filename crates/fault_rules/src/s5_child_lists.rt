@@ -7,15 +7,15 @@ ghost use Rattle.fault_rules.specs.Walked.{child_listed};
 
 use slot::Node;
 use sound_walks::children;
-use table::{Marks, Table};
+use table::{Table, marks};
 
-fn is_listed(t: &Table, listed: &Marks, n: Node, child: Node) -> bool
+fn is_listed(t: &Table, listed: &[u8], n: Node, child: Node) -> bool
     ensures { result ≡ child_listed (table_of t.now) listed.now n.0 child.0 }
 {
-    !children::is_child(t, n, child) || listed.is_marked(child)
+    !children::is_child(t, n, child) || marks::is_marked(listed, child)
 }
 
-fn all_listed(t: &Table, listed: &Marks, n: Node) -> bool
+fn all_listed(t: &Table, listed: &[u8], n: Node) -> bool
     ensures { result ≡ all_from (child_listed (table_of t.now) listed.now n.0) 256 0 }
 {
     (0..256).all(|i| is_listed(t, listed, n, Node(i)))
@@ -27,7 +27,7 @@ pub fn holds(t: &Table, n: Node) -> bool
     if !table::field::is_outer(t, n) {
         return true;
     }
-    let mut listed = Marks::none();
+    let mut listed = [0u8; 256];
     if !children::list_step(t, &mut listed, n) {
         return false;
     }

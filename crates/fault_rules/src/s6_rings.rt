@@ -11,7 +11,7 @@ use slot::Node;
 use sound_slots::value;
 use sound_walks::marking::walk;
 use sound_walks::numbers::is_odd_ring;
-use table::{Marks, Table, field};
+use table::{Table, field, marks};
 
 // The node after n on the ring that begins with another; none where that is the first again.
 // Kept: 65,535 for none, as the definition has it and the walk along a list takes it.
@@ -36,7 +36,7 @@ fn is_ring_node(t: &Table, b: Node, n: Node) -> bool
 }
 
 // Around the ring: marks its nodes and counts them. None where it does not come back, or meets a node that is not b's.
-pub fn walk_ring(t: &Table, seen: &mut Marks, b: Node, first: Node) -> Option<u16>
+pub fn walk_ring(t: &Table, seen: &mut [u8], b: Node, first: Node) -> Option<u16>
     ensures walked { walked_of (unwrap_or result none) seen.new ≡ marking 256 (next_in_ring (table_of t.now) first.0) (is_ring_node (table_of t.now) b.0) first.0 0 seen.old }
     ensures few { IfSome result (λ count. count ≤ 256) }
 {
@@ -48,13 +48,13 @@ pub fn walk_ring(t: &Table, seen: &mut Marks, b: Node, first: Node) -> Option<u1
     )
 }
 
-fn is_on_ring(t: &Table, seen: &Marks, b: Node, n: Node) -> bool
+fn is_on_ring(t: &Table, seen: &[u8], b: Node, n: Node) -> bool
     ensures { result ≡ ring_listed (table_of t.now) seen.now b.0 n.0 }
 {
-    !is_inner_child(t, b, n) || seen.is_marked(n)
+    !is_inner_child(t, b, n) || marks::is_marked(seen, n)
 }
 
-fn all_on_ring(t: &Table, seen: &Marks, b: Node) -> bool
+fn all_on_ring(t: &Table, seen: &[u8], b: Node) -> bool
     ensures { result ≡ all_from (ring_listed (table_of t.now) seen.now b.0) 256 0 }
 {
     (0..256).all(|i| is_on_ring(t, seen, b, Node(i)))
@@ -64,7 +64,7 @@ fn ring_holds(t: &Table, b: Node) -> bool
     ensures { result ≡ ring_holds (table_of t.now) b.0 }
 {
     let first = field::get_first_blossom_child(t, b);
-    let mut seen = Marks::none();
+    let mut seen = [0u8; 256];
     let Some(count) = walk_ring(t, &mut seen, b, first) else {
         return false;
     };

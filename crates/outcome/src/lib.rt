@@ -10,7 +10,7 @@ pub mod run;
 ghost use Rattle.std.specs.Prelude.{◌≡◌, ◌-◌, length};
 
 pub use partner::Partner;
-pub use run::Run;
+pub use run::{NotRun, Run};
 
 // What a call asks of the lent bytes: for commands (9), for each present defect of a listing (10), and, in a run, for commands and an end
 // record.

@@ -8,7 +8,7 @@ ghost use Rattle.partner.specs.Following.{turned_off, followed};
 
 use crate::way;
 use slot::{Link, Node};
-use table::numbers::SlotNumbers;
+use table::numbers::number_of;
 use table::{Table, field};
 
 // The link of x among the ring nodes from n on, which go two by two.
@@ -32,19 +32,19 @@ fn ring_link(t: &Table, x: Node, n: Node) -> Link
 }
 
 // A touch beside the way: the link of the node on the way that is in one ring with the node touched.
-fn turn_off(t: &Table, below: &SlotNumbers, touch: Node) -> Link
+fn turn_off(t: &Table, below: &[u16], touch: Node) -> Link
     ensures { link_of result ≡ turned_off (table_of t.now) below.now touch.0 }
 {
     let touched = way::beside_way(t, below, touch);
     let blossom = field::parent(t, touched);
-    let on_way = Node(below.get(blossom));
+    let on_way = Node(number_of(below, blossom));
     let after = field::sibling(t, touched);
     ring_link(t, on_way, after)
 }
 
 // The link that touches d.
 #[tactic(auto, using(crate::proofs::FollowSteps::links))]
-pub fn follow(t: &Table, below: &SlotNumbers, d: Node, outermost: Link) -> Link
+pub fn follow(t: &Table, below: &[u16], d: Node, outermost: Link) -> Link
     ensures { link_of result ≡ followed 256 (table_of t.now) below.now d.0 (link_of outermost) }
 {
     let mut link = outermost;

@@ -16,14 +16,13 @@ use record::{Pair, VirtualPair};
 use refusal::Refusal;
 use slot::{Link, Node, State};
 use sound_table::SoundView;
-use table::numbers::SlotNumbers;
 use table::{Table, field};
 
 // The link by which d is paired.
 fn entry_of(t: &Table, d: Node) -> Option<Link>
     ensures { option_map link_of result ≡ followed_entry (table_of t.now) d.0 }
 {
-    let mut below = SlotNumbers::filled(Node::NONE.0);
+    let mut below = [Node::NONE.0; 256];
     let home = way::note_way(t, &mut below, d);
     if field::state(t, home) != State::Stay {
         return None;

@@ -1,10 +1,11 @@
 -- What a call answers by the soundness of its table: refused by 1, or whatever is answered on a table that is known to be sound.
 use mathlib.Core.Path.{◌≡◌, sym, ap, ◌∙◌}
-use mathlib.Core.Bool.{true}
+use mathlib.Core.Bool.{true, false}
 use mathlib.Core.List.{List}
 use Prim.Native.Nat.{ℕ}
+use native.Mathlib.Omega.{arith}
 use lib.ListN.{length}
-use Rattle.std.specs.Prelude.{Err}
+use Rattle.std.specs.Prelude.{Result, Ok, Err, MatchResult, is_ok}
 use Rattle.std.proofs.Math.Nat.{sub-zero}
 use Rattle.table.specs.Words.{table_of}
 use Rattle.refusal.specs.declared.Refusal.{Refusal}
@@ -15,7 +16,7 @@ use Rattle.record.specs.declared.request.Request.{Request}
 use Rattle.rules.specs.Calls.{act_of}
 use Rattle.rules.specs.Sound.{sound}
 use Rattle.sound_table.specs.declared.words.SoundView.{SoundView}
-use Rattle.sound_table.specs.Checks.{Refuses}
+use Rattle.sound_table.specs.Checks.{Refuses, Checked}
 use Rattle.outcome.specs.Handled.{Handled}
 use Rattle.outcome.specs.Call.{Call}
 use Rattle.outcome.proofs.Outcomes.{refused_by, same_outcome}
@@ -37,3 +38,20 @@ module _ (q : Request) (words bytes : List ℕ) where
 -- the words that the check looked at are sound
 pub sound_words : (v : SoundView) (words : List ℕ) → v.words.now ≡ words → sound (table_of words) ≡ true
 sound_words v words e = sym (ap (λ (ws : List ℕ). sound (table_of ws)) e) ∙ v.is_sound
+
+-- .. where the check's answer is told by a result of another error
+module _ (words : List ℕ) where
+  pub checked_sound : (x : Result SoundView Refusal) → Checked words x → true ≡ is_ok x → sound (table_of words) ≡ true
+  checked_sound (Ok v) h q = sound_words v words h
+  checked_sound (Err n) h q = let z : ◌≡◌ {A = ℕ} 0 1 = cc in absurd (omega arith)
+
+  -- .. of which the refusal tells
+  pub refused_check :
+      {A : Type 0} (x : Result SoundView Refusal) (P : SoundView → Type 0) (Q : Refusal → Type 0)
+      → Checked words x
+      → false ≡ is_ok x
+      → MatchResult x P Q
+      → ((n : Refusal) → Q n → Refuses words n → A)
+      → A
+  refused_check (Ok v) P Q h q m f = let z : ◌≡◌ {A = ℕ} 0 1 = cc in absurd (omega arith)
+  refused_check (Err n) P Q h q m f = f n m h

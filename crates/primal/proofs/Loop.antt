@@ -13,6 +13,7 @@ use Rattle.record.specs.Reading.{Reading}
 use Rattle.lists.proofs.Budget.{fewer}
 use Rattle.table.specs.Words.{table_of}
 use Rattle.refusal.specs.declared.Refusal.{Refusal}
+use Rattle.refusal.specs.Refusal.{number_of}
 use Rattle.record.specs.declared.request.Request.{Request}
 use Rattle.record.specs.Reading as reading
 use Rattle.rules.specs.Act.{World, world_of}
@@ -24,6 +25,7 @@ use Rattle.theorems_soundness.proofs.Reflect.{same_or_not}
 use Rattle.tape.specs.declared.next.Next.{Next}
 use Rattle.tape.specs.Next.{next_of}
 use Rattle.tape.proofs.NextSteps as next
+use Rattle.sound_table.specs.Checks.{Refuses}
 use Rattle.outcome.specs.Tape.{Tape}
 
 abbrev pub stands : World → List ℕ → ℕ → Progress
@@ -114,6 +116,14 @@ module _ (allowance : ℕ) (words bytes tape : List ℕ) where
   pub unsound_out : sound (table_of words) ≡ false → Tape allowance words bytes tape 0 1 0 0 tape words bytes
   unfolding run_tape
   unsound_out e = rw e (refl, refl, refl, refl, refl, refl, refl)
+
+  pub refused_out :
+      (refusal n : Refusal) (rest : List ℕ)
+      → refusal ≡ n
+      → rest ≡ tape
+      → Refuses words n
+      → Tape allowance words bytes tape 0 (number_of refusal) 0 0 rest words bytes
+  refused_out refusal n rest e f h = rw (f, e, h.0) (unsound_out h.1)
 
   pub stopped-out :
       (s : Stop) (words' left bytes' rest : List ℕ) (written handled k : ℕ)

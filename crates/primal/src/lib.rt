@@ -2,7 +2,6 @@
 // position may be passed.
 #![tactic(auto)]
 
-mod running;
 mod serving;
 
 ghost use Rattle.std.specs.Prelude.{◌≡◌};
@@ -16,12 +15,12 @@ ghost use Rattle.rules.specs.Sound.{sound};
 ghost use Rattle.rules.specs.Fault.{first_fault};
 ghost use Rattle.outcome.specs.Call.{Call, Reset};
 ghost use Rattle.outcome.specs.Partner.{partner_of};
+ghost use Rattle.outcome.specs.Tape.{Runs};
 
-use outcome::Partner;
+use outcome::{NotRun, Partner, Run};
 use record::{Conflict, Expansion, Reading, Record, Request, VirtualConflict};
 use refusal::{Answer, Refusal};
 use rules::fault::Fault;
-pub use running::run;
 use slot::Node;
 use sound_table::{SoundTable, check};
 use table::Table;
@@ -116,4 +115,44 @@ pub fn write_answer(out: &mut [u8], pos: usize, answer: Record) -> Answer
     ensures { wrote_of out.new result ≡ wrote (out_of out.old pos) (answer_bytes answer) }
 {
     record_writing::write(out, pos, answer)
+}
+
+// The run: handles the tape's records, at most so many, and tells why it stopped, how many it handled, the bytes written and the tape's
+// unread rest; or refusal 1, before any stop, with the whole tape. The table is checked once: each request leaves a sound table sound.
+pub fn run<'a>(
+    t: &mut Table,
+    tape: &'a [u8],
+    out: &mut [u8],
+    allowance: u32,
+) -> Result<Run<'a>, NotRun<'a>>
+    ensures { Runs allowance t.old out.old tape.now result t.new out.new }
+{
+    check(t).map_err(|refusal| NotRun {
+        refusal,
+        rest: tape,
+    })?;
+    let mut table = SoundTable { words: t };
+    let mut rest = tape;
+    let mut left = allowance;
+    let mut handled: u32 = 0;
+    let mut written: usize = 0;
+    // Kept: what is left of the allowance comes back with each record (`what_next`), so a range would count a second time.
+    loop {
+        match tape::next::what_next(rest, left, outcome::room(out, written)) {
+            Ok(next) => {
+                written = serving::serve(&mut table, out, written, next.request);
+                rest = &rest[next.size..];
+                left = next.left;
+                handled += 1;
+            }
+            Err(stop) => {
+                return Ok(Run {
+                    stop,
+                    handled,
+                    written,
+                    rest,
+                });
+            }
+        }
+    }
 }

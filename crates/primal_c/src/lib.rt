@@ -149,12 +149,12 @@ pub extern "C" fn boltclover_run(
             *unread = run.rest.len();
             0
         }
-        Err(refusal) => {
+        Err(refused) => {
             *stop = 0;
             *handled = 0;
             *written = 0;
-            *unread = tape.len();
-            u16::from(refusal)
+            *unread = refused.rest.len();
+            u16::from(refused.refusal)
         }
     }
 }

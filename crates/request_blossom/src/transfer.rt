@@ -56,7 +56,9 @@ fn transfer_children_except_for_two(t: &mut Table, b: Node, x: Node, y: Node, c:
 }
 
 impl Ring {
-    // The children of the path from n up to the meeting node, not with it.
+    // The children of the path from n up to the meeting node, not with it. Where it is not taken into its caller it has the ring lent in
+    // memory, and the nested tape takes 13 instructions a request more.
+    #[inline(always)]
     #[tactic(auto, using(crate::proofs::Lists::paths))]
     fn transfer_path_children(self, t: &mut Table, n: Node)
         ensures { table_of t.new ≡ moved_up_to 256 self.blossom.0 self.meeting.0 n.0 n.0 (table_of t.old) }

@@ -15,18 +15,17 @@ ghost use Rattle.sound.specs.Given.{each_holds, numbered_hold, paths_hold};
 use crate::slots::{all_vacant, slots_hold};
 use sound_slots::stretches::Stretches;
 use sound_walks::{children, numbers, ways};
-use table::numbers::SlotNumbers;
-use table::{Marks, Table, counts};
+use table::{Table, counts};
 
 // Each slot by itself (S1 to S4, S7 and S8), touches by numbers.
 // Kept: defects, begin and end are three numbers, as the definitions in specs/Given take them; a struct would be taken apart in each clause.
 #[tactic(auto, unfolding(crate::specs::Given::each_holds))]
-fn each_holds(t: &Table, inside: &Stretches, defects: u16, begin: u16, end: u16) -> bool
-    ensures { result ≡ each_holds (table_of t.now) (is_held (table_of t.now) inside.now.lo inside.now.hi) (is_numbered inside.now.lo) defects begin end }
+fn each_holds(t: &Table, lo: &[u16], hi: &[u16], defects: u16, begin: u16, end: u16) -> bool
+    ensures { result ≡ each_holds (table_of t.now) (is_held (table_of t.now) lo.now hi.now) (is_numbered lo.now) defects begin end }
 {
-    slots_hold(t, inside, 0, defects)
+    slots_hold(t, lo, hi, 0, defects)
         && all_vacant(t, defects, begin)
-        && slots_hold(t, inside, begin, end)
+        && slots_hold(t, lo, hi, begin, end)
         && all_vacant(t, end, 256)
 }
 
@@ -38,7 +37,14 @@ fn numbered_hold(t: &Table, defects: u16, begin: u16, end: u16) -> bool
 {
     let mut inside = Stretches::none();
     numbers::number_outers(t, &mut inside, begin, end).is_some()
-        && each_holds(t, &inside, defects, begin, end)
+        && each_holds(
+            t,
+            inside.lo.as_slice(),
+            inside.hi.as_slice(),
+            defects,
+            begin,
+            end,
+        )
 }
 
 // Child lists and ways up (S5, S7).
@@ -47,8 +53,8 @@ fn numbered_hold(t: &Table, defects: u16, begin: u16, end: u16) -> bool
 fn paths_hold(t: &Table, defects: u16, begin: u16, end: u16) -> bool
     ensures { result ≡ paths_hold (table_of t.now) defects begin end }
 {
-    let mut listed = Marks::none();
-    let mut deep = SlotNumbers::filled(0);
+    let mut listed = [0u8; 256];
+    let mut deep = [0u16; 256];
     if !children::lists_hold(t, &mut listed, 0, defects) {
         return false;
     }

@@ -9,7 +9,6 @@ ghost use Rattle.sound.specs.OneSlot.{slot_holds, is_vacant};
 use slot::{Node, State};
 use sound_slots::links::ring_placed;
 use sound_slots::states::{grow_holds, inner_holds, shrink_holds, stay_holds};
-use sound_slots::stretches::Stretches;
 use sound_slots::value;
 use table::Table;
 
@@ -32,8 +31,8 @@ pub fn sizes_hold(t: &Table) -> bool
 
 // All that is asked of a slot that is given out, with the numbers of insides.
 #[tactic(auto, unfolding(crate::specs::OneSlot::slot_holds))]
-pub fn slot_holds(t: &Table, inside: &Stretches, n: Node) -> bool
-    ensures { result ≡ slot_holds (table_of t.now) (is_held (table_of t.now) inside.now.lo inside.now.hi) (is_numbered inside.now.lo) n.0 }
+pub fn slot_holds(t: &Table, lo: &[u16], hi: &[u16], n: Node) -> bool
+    ensures { result ≡ slot_holds (table_of t.now) (is_held (table_of t.now) lo.now hi.now) (is_numbered lo.now) n.0 }
 {
     let s = table::get(t, n);
     if !ring_placed(t, n, s.ring) {
@@ -41,10 +40,10 @@ pub fn slot_holds(t: &Table, inside: &Stretches, n: Node) -> bool
     }
     match s.state {
         State::Empty => value::is_bare(s),
-        State::Inner => inner_holds(t, inside, n, s),
-        State::Stay => stay_holds(t, inside, n, s),
-        State::Grow => grow_holds(t, inside, n, s),
-        State::Shrink => shrink_holds(t, inside, n, s),
+        State::Inner => inner_holds(t, lo, hi, n, s),
+        State::Stay => stay_holds(t, lo, hi, n, s),
+        State::Grow => grow_holds(t, lo, hi, n, s),
+        State::Shrink => shrink_holds(t, lo, hi, n, s),
         State::Damaged => false,
     }
 }
@@ -59,10 +58,10 @@ fn is_vacant(t: &Table, n: Node) -> bool
 }
 
 // The slots from one number to before another.
-pub fn slots_hold(t: &Table, inside: &Stretches, from: u16, to: u16) -> bool
-    ensures { result ≡ all_from (slot_holds (table_of t.now) (is_held (table_of t.now) inside.now.lo inside.now.hi) (is_numbered inside.now.lo)) (to - from) from }
+pub fn slots_hold(t: &Table, lo: &[u16], hi: &[u16], from: u16, to: u16) -> bool
+    ensures { result ≡ all_from (slot_holds (table_of t.now) (is_held (table_of t.now) lo.now hi.now) (is_numbered lo.now)) (to - from) from }
 {
-    (from..to).all(|i| slot_holds(t, inside, Node(i)))
+    (from..to).all(|i| slot_holds(t, lo, hi, Node(i)))
 }
 
 pub fn all_vacant(t: &Table, from: u16, to: u16) -> bool

@@ -6,16 +6,35 @@ ghost use Rattle.slot.specs.Slot.{link_of, slot_of};
 ghost use Rattle.table.specs.Words.{table_of};
 ghost use Rattle.sound_slots.specs.Links.{is_held, touches_hold, ring_placed, points_back, pair_holds};
 
-use crate::stretches::Stretches;
 use slot::{Link, Node, Slot, State};
+use table::numbers::number_of;
 use table::{Table, field};
+
+// A defect inside x: x itself, as most often, or one whose number lies in x's stretch.
+#[tactic(auto, unfolding(crate::specs::Links::is_held))]
+pub fn touch_holds(t: &Table, lo: &[u16], hi: &[u16], x: Node, touch: Node) -> bool
+    ensures { result ≡ is_held (table_of t.now) lo.now hi.now x.0 touch.0 }
+{
+    let begin = table::counts::begin(t);
+    if begin <= touch.0 {
+        return false;
+    }
+    if touch == x {
+        return true;
+    }
+    let number = number_of(lo, touch);
+    if number < number_of(lo, x) {
+        return false;
+    }
+    number < number_of(hi, x)
+}
 
 // S8 of a link with two touches.
 #[tactic(auto, unfolding(crate::specs::Links::touches_hold))]
-pub fn touches_hold(t: &Table, inside: &Stretches, n: Node, far: Node, link: Link) -> bool
-    ensures { result ≡ touches_hold (is_held (table_of t.now) inside.now.lo inside.now.hi) n.0 far.0 (link_of link) }
+pub fn touches_hold(t: &Table, lo: &[u16], hi: &[u16], n: Node, far: Node, link: Link) -> bool
+    ensures { result ≡ touches_hold (is_held (table_of t.now) lo.now hi.now) n.0 far.0 (link_of link) }
 {
-    inside.holds(t, n, link.touch) && inside.holds(t, far, link.peer_touch)
+    touch_holds(t, lo, hi, n, link.touch) && touch_holds(t, lo, hi, far, link.peer_touch)
 }
 
 // Only blossoms have a first blossom child.

@@ -4,6 +4,7 @@ ghost use Rattle.std.specs.Prelude.{◌≡◌, replicate};
 ghost use Rattle.table.specs.Words.{table_of};
 ghost use Rattle.sound_slots.specs.Links.{is_held, is_numbered};
 
+use crate::links::touch_holds;
 use slot::Node;
 use table::Table;
 use table::numbers::SlotNumbers;
@@ -32,22 +33,10 @@ impl Stretches {
         self.lo.get(n) != 0
     }
 
-    // A defect inside x: x itself, as most often, or one whose number lies in x's stretch.
-    #[tactic(auto, unfolding(crate::specs::Links::is_held))]
+    // The test of a touch, with both lists lent.
     pub fn holds(&self, t: &Table, x: Node, touch: Node) -> bool
         ensures { result ≡ is_held (table_of t.now) self.now.lo self.now.hi x.0 touch.0 }
     {
-        let begin = table::counts::begin(t);
-        if begin <= touch.0 {
-            return false;
-        }
-        if touch == x {
-            return true;
-        }
-        let number = self.lo.get(touch);
-        if number < self.lo.get(x) {
-            return false;
-        }
-        number < self.hi.get(x)
+        touch_holds(t, self.lo.as_slice(), self.hi.as_slice(), x, touch)
     }
 }

@@ -5,8 +5,8 @@ ghost use Rattle.rules.specs.Sound.{sound};
 
 use table::Table;
 
-// Words that a call may change. No function makes one from words that it was lent: whoever lent them would not learn what became of them
-// where the table is not sound. So a caller asks `check` first, and names the words itself.
+// Words that a call may change. No function gives words that it was lent back as one, or refuses: whoever lent them would not learn what
+// became of them where the table is not sound. So a caller asks `check` first, and makes the value of the words itself.
 #[derive(Drop)]
 pub struct SoundTable<'a> {
     pub words: &'a mut Table,

@@ -7,7 +7,7 @@ ghost use Rattle.sound_walks.specs.Lists.{list_step};
 
 use crate::marking::walk;
 use slot::Node;
-use table::{Marks, Table, field};
+use table::{Table, field};
 
 pub fn is_child(t: &Table, i: Node, n: Node) -> bool
     ensures { result ≡ is_outer_child (table_of t.now) i.0 n.0 }
@@ -17,7 +17,7 @@ pub fn is_child(t: &Table, i: Node, n: Node) -> bool
 
 // From the first child along siblings to the end, children of i alone.
 #[tactic(auto, unfolding(crate::specs::Lists::list_step))]
-pub fn list_step(t: &Table, seen: &mut Marks, i: Node) -> bool
+pub fn list_step(t: &Table, seen: &mut [u8], i: Node) -> bool
     ensures { judged_of result seen.new ≡ list_step (table_of t.now) i.0 seen.old }
 {
     let child = field::first_child(t, i);
@@ -26,7 +26,7 @@ pub fn list_step(t: &Table, seen: &mut Marks, i: Node) -> bool
 
 // The lists of the slots from one number to before another.
 // Kept: beside ways_hold; one pass over any step would say in its clause what each step means of two kinds of lists, longer than both loops.
-pub fn lists_hold(t: &Table, seen: &mut Marks, from: u16, to: u16) -> bool
+pub fn lists_hold(t: &Table, seen: &mut [u8], from: u16, to: u16) -> bool
     ensures { judged_of result seen.new ≡ sweep (list_step (table_of t.now)) (to - from) from seen.old }
 {
     for i in from..to {

@@ -4,12 +4,12 @@ ghost use Rattle.slot.specs.Number.{none};
 ghost use Rattle.sound_walks.specs.Marks.{walked_of, marking};
 
 use slot::Node;
-use table::Marks;
+use table::marks;
 
 // From a node to the next and so on, each marked, until there is none: how many there were. None where more than 256 follow one another, or
 // one is not `mine`.
 pub fn walk<N: Fn(Node) -> Node, M: Fn(Node) -> bool>(
-    seen: &mut Marks,
+    seen: &mut [u8],
     from: Node,
     next: N,
     mine: M,
@@ -27,7 +27,7 @@ pub fn walk<N: Fn(Node) -> Node, M: Fn(Node) -> bool>(
         if !mine(here) {
             return None;
         }
-        seen.mark(here);
+        marks::mark(seen, here);
         here = next(here);
     }
     if here.is_none() { Some(256) } else { None }

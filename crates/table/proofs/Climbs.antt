@@ -1,5 +1,5 @@
--- Each climb, one step at a time, as the code's loops take it: after i steps 256 - i are left; and the climb to the outer node by the number
--- of steps that are left.
+-- Each climb, one step at a time, as the code's loops take it: after i steps 256 - i are left; and the climbs to the outer node and to
+-- the ring node by the number of steps that are left.
 use mathlib.Core.Path.{◌≡◌, refl}
 use mathlib.Core.Bool.{true, false}
 use Prim.Native.Nat.{ℕ, zero, suc, ◌+◌, ◌-◌, ◌≤◌, ◌<◌}
@@ -40,14 +40,6 @@ module _ (i : ℕ) (t : Table) where
   unfolding outer_blossom_within
   outer_up n h q = rw (one_left i 256 h, q, add-one)
 
-  pub second_end : (below n : ℕ) → 256 ≤ i → second_outer_within (256 - i) t below n ≡ below
-  unfolding second_outer_within
-  second_end below n h = rw (none_left i 256 h)
-
-  pub second_up : (below n : ℕ) → i < 256 → inner t n ≡ true → second_outer_within (256 - i) t below n ≡ second_outer_within (256 - (i + 1)) t n (at t n).parent
-  unfolding second_outer_within
-  second_up below n h q = rw (one_left i 256 h, q, add-one)
-
 pub outer_stop : (t : Table) (n k : ℕ) → inner t n ≡ false → outer_blossom_within k t n ≡ n
 unfolding outer_blossom_within
 outer_stop t n zero q = refl
@@ -77,3 +69,18 @@ module _ (t : Table) (n : ℕ) where
   unfolding outer_blossom_within
   outer-more zero m h q e = absurd (omega arith)
   outer-more (suc k) m h q e = rw (q, fewer k, e)
+
+  module _ (below : ℕ) where
+    pub second_spent : (k : ℕ) → k ≡ 0 → second_outer_within k t below n ≡ below
+    unfolding second_outer_within
+    second_spent k e = rw e
+
+    pub second_more :
+        (k m : ℕ)
+        → 0 < k
+        → inner t n ≡ true
+        → m ≡ (at t n).parent
+        → second_outer_within (k - 1) t n m ≡ second_outer_within k t below n
+    unfolding second_outer_within
+    second_more zero m h q e = absurd (omega arith)
+    second_more (suc k) m h q e = rw (q, fewer k, e)

@@ -6,6 +6,27 @@ ghost use Rattle.table.specs.Marks.{marked, unmarked};
 use slot::Node;
 use std::marker::Model;
 
+// In lent bytes of any length, one for each slot: past their end there is nothing to read and nothing to change.
+pub fn mark(seen: &mut [u8], n: Node)
+    ensures { seen.new ≡ set seen.old n.0 1 }
+{
+    let i = n.0 as usize;
+    if i < seen.len() {
+        seen[i] = 1;
+    }
+}
+
+pub fn is_marked(seen: &[u8], n: Node) -> bool
+    ensures { result ≡ marked seen.now n.0 }
+{
+    let i = n.0 as usize;
+    if i < seen.len() {
+        return seen[i] == 1;
+    }
+    false
+}
+
+// The same of all 256 slots, in memory of its own.
 #[derive(Drop)]
 pub struct Marks {
     passed: [bool; 256],

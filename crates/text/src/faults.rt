@@ -40,10 +40,19 @@ impl fmt::Display for Expected {
     }
 }
 
-// As "column 10: expected the word touch". Columns are counted from 1.
+// Columns are counted from 1. A line of a text has fewer than 65,536 bytes; where as many are read as one, the place behind them is told
+// as their last column.
+fn column(place: usize) -> usize {
+    if place < 65536 {
+        return place + 1;
+    }
+    place
+}
+
+// As "column 10: expected the word touch".
 impl fmt::Display for Fault {
     fn fmt<W: fmt::Write>(&self, f: &mut fmt::Formatter<W>) -> fmt::Result {
-        let column = self.place.saturating_add(1);
+        let column = column(self.place);
         let expected = self.expected;
         write!(f, "column {column}: expected {expected}")
     }

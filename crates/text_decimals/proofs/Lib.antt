@@ -2,3 +2,5 @@ pub mod Digits
 pub mod Copy
 pub mod Scan
 pub mod Theorems
+pub mod Displayed
+pub mod Added

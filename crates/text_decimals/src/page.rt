@@ -1,6 +1,6 @@
 // Lines in fixed memory: text is written to a page, and the page to standard output.
 ghost use Rattle.std.specs.Prelude.{◌≡◌, ◌≤◌, ℕ, List, [], length, take};
-ghost use Rattle.text_decimals.specs.Page.{with_piece};
+ghost use Rattle.text_decimals.specs.Page.{with_piece, ShownOn};
 
 use std::fmt;
 use std::marker::Model;
@@ -49,10 +49,14 @@ impl<const N: usize> Page<N> {
         }
     }
 
-    // What a value shows as text, in pieces, each of which is left out where there is no room for all of it.
-    pub fn add<D: fmt::Display + Drop>(&mut self, what: D) {
-        // Writing to a page does not fail.
-        let _ = fmt::Write::write(self, what);
+    // What a value shows as text, in pieces, each of which is left out where there is no room for all of it. A value that fails to show
+    // itself leaves an empty page, since nothing is known of what it wrote before; none of the programs' values does.
+    pub fn add<D: fmt::Display + Drop>(&mut self, what: D)
+        ensures { ShownOn N self.old (D.output what) self.new }
+    {
+        if fmt::Write::write(self, what).is_err() {
+            self.length = 0;
+        }
     }
 }
 

@@ -4,7 +4,7 @@ use mathlib.Core.Path.{◌≡◌, ap, sym, ◌∙◌}
 use mathlib.Core.Bool.{Bool}
 use mathlib.Core.List.{List, []}
 use Prim.Native.Nat.{ℕ}
-use Rattle.std.specs.Prelude.{Option, Result}
+use Rattle.std.specs.Prelude.{Option, Result, Ok, Err}
 use Rattle.table.specs.Words.{table_of}
 use Rattle.table.specs.Making.{Made, begin_fits}
 use Rattle.refusal.specs.declared.Refusal.{Refusal}
@@ -22,7 +22,10 @@ use Rattle.rules.specs.Fault.{first_fault}
 use Rattle.outcome.specs.declared.partner.Partner.{Partner}
 use Rattle.outcome.specs.Call.{Call, Reset}
 use Rattle.outcome.specs.Partner.{partner_of}
-use Rattle.outcome.specs.Tape.{Tape}
+use Rattle.outcome.specs.declared.run.Run.{Run}
+use Rattle.outcome.specs.declared.run.NotRun.{NotRun}
+use Rattle.outcome.specs.Tape.{Tape, Runs, SameRun}
+use Rattle.outcome.proofs.RunOutcomes.{same_runs}
 use Rattle.theorems_promises.specs.Lent.{Lent}
 use Rattle.theorems_promises.proofs.Determining.{made-once, call-determined, run-determined}
 
@@ -59,6 +62,34 @@ pub run-once :
     → Tape allowance words bytes tape stop' refusal' handled' written' rest' words₂ bytes₂
     → (stop ≡ stop') × (refusal ≡ refusal') × (handled ≡ handled') × (written ≡ written') × (rest ≡ rest') × (words₁ ≡ words₂) × (bytes₁ ≡ bytes₂)
 run-once = run-determined
+
+-- .. and as its result tells it
+runs-after :
+    (allowance : ℕ) (words bytes tape : List ℕ) (r r' : Result Run NotRun) (words₁ words₂ bytes₁ bytes₂ : List ℕ)
+    → Lent words₁
+    → Lent words₂
+    → Runs allowance words bytes tape r words₁ bytes₁
+    → Runs allowance words bytes tape r' words₂ bytes₂
+    → SameRun r r'
+    → (words₁ ≡ words₂) × (bytes₁ ≡ bytes₂)
+runs-after allowance words bytes tape (Ok r) (Ok r') words₁ words₂ bytes₁ bytes₂ l₁ l₂ h k same =
+    let o = run-once allowance words bytes tape _ _ _ _ _ _ _ _ _ _ words₁ words₂ bytes₁ bytes₂ l₁ l₂ h k in (o.5, o.6)
+runs-after allowance words bytes tape (Err e) (Err e') words₁ words₂ bytes₁ bytes₂ l₁ l₂ h k same =
+    let o = run-once allowance words bytes tape _ _ _ _ _ _ _ _ _ _ words₁ words₂ bytes₁ bytes₂ l₁ l₂ h k in (o.5, o.6)
+runs-after allowance words bytes tape (Ok r) (Err e) words₁ words₂ bytes₁ bytes₂ l₁ l₂ h k same = absurd same
+runs-after allowance words bytes tape (Err e) (Ok r) words₁ words₂ bytes₁ bytes₂ l₁ l₂ h k same = absurd same
+
+pub runs_once :
+    (allowance : ℕ) (words bytes tape : List ℕ) (r r' : Result Run NotRun) (words₁ words₂ bytes₁ bytes₂ : List ℕ)
+    → Lent words₁
+    → Lent words₂
+    → Runs allowance words bytes tape r words₁ bytes₁
+    → Runs allowance words bytes tape r' words₂ bytes₂
+    → SameRun r r' × (words₁ ≡ words₂) × (bytes₁ ≡ bytes₂)
+runs_once allowance words bytes tape r r' words₁ words₂ bytes₁ bytes₂ l₁ l₂ h k =
+    let same = same_runs allowance words bytes tape words₁ words₂ bytes₁ bytes₂ r r' h k in
+    let after = runs-after allowance words bytes tape r r' words₁ words₂ bytes₁ bytes₂ l₁ l₂ h k same in
+    (same, after.0, after.1)
 
 -- the soundness check: its promise is an equation for the answer
 pub sound_once : (words : List ℕ) (r r' : Bool) → r ≡ sound (table_of words) → r' ≡ sound (table_of words) → r ≡ r'

@@ -6,7 +6,7 @@ use Rattle.sound.proofs.numbered_hold.Goals as goal
 pub returns-then-is_some : goal.returns-then-is_some
 unfolding numbers_from
 returns-then-is_some c =
-    numbers_decide _ _ _ _ _ _ _ _ (rw (c.none-inside.ensures.lo, c.none-inside.ensures.hi) at c.number_outers.ensures.numbers) c.number_outers.ensures.some c.if-is_some.ensures c.each_holds.ensures
+    numbers_decide _ _ _ _ _ _ _ _ (rw (c.none-inside.ensures.lo, c.none-inside.ensures.hi) at c.number_outers.ensures.numbers) c.number_outers.ensures.some c.if-is_some.ensures (rw (c.as_slice.ensures, c.as_slice-then-is_some.ensures) at c.each_holds.ensures)
 
 pub returns-else-is_some : goal.returns-else-is_some
 unfolding numbers_from

@@ -11,7 +11,7 @@ returns-then-is_none c = (
 
 pub returns-then-known-count : goal.returns-then-known-count
 returns-then-known-count c = (
-  measured_known _ _ _ _ (eqb-false _ _ (sym c.if-is_none.ensures)) _ c.get-known.ensures _ c.if-known-ne0.true
+  measured_known _ _ _ _ (eqb-false _ _ (sym c.if-is_none.ensures)) _ c.number_of-known.ensures _ c.if-known-ne0.true
       ∙ c.loop-count.invariant.0 (omega (arith, c.loop-count-test.true)),
   omega (arith, c.loop-count-test.true, c.if-known-count.true),
 )
@@ -19,7 +19,7 @@ returns-then-known-count c = (
 pub returns-else-known-count : goal.returns-else-known-count
 returns-else-known-count c =
     let whole =
-    measured_known _ _ _ _ (eqb-false _ _ (sym c.if-is_none.ensures)) _ c.get-known.ensures _ c.if-known-ne0.true
+    measured_known _ _ _ _ (eqb-false _ _ (sym c.if-is_none.ensures)) _ c.number_of-known.ensures _ c.if-known-ne0.true
     ∙ c.loop-count.invariant.0 (omega (arith, c.loop-count-test.true)) in
     omega (arith, whole, c.if-known-count.false)
 
@@ -27,11 +27,11 @@ pub loop-count-preserved : goal.loop-count-preserved
 loop-count-preserved c =
     let some = eqb-false _ _ (sym c.if-is_none.ensures) in (
       λ h.
-          measured_more _ _ _ _ some _ c.get-known.ensures 257 _ c.if-known-ne0.false (omega (arith, h)) c.parent-here.ensures
+          measured_more _ _ _ _ some _ c.number_of-known.ensures 257 _ c.if-known-ne0.false (omega (arith, h)) c.parent-here.ensures
           ∙ c.loop-count.invariant.0 (omega (arith, h)),
       λ h.
           let whole =
-          measured_spent _ _ _ _ some _ c.get-known.ensures (257 - c.loop-count.count) c.if-known-ne0.false (omega (arith, h))
+          measured_spent _ _ _ _ some _ c.number_of-known.ensures (257 - c.loop-count.count) c.if-known-ne0.false (omega (arith, h))
           ∙ c.loop-count.invariant.0 (omega (arith, c.loop-count-test.true)) in
           omega (arith, whole),
     )

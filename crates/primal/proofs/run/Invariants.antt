@@ -5,7 +5,7 @@ use Rattle.rules.specs.Act.{world_of}
 use Rattle.rules.specs.Run.{run_from}
 use Rattle.sound_table.specs.Checks.{SameWords}
 use Rattle.primal.proofs.Loop.{stands}
-use Rattle.primal.proofs.running.run.Given as goal
+use Rattle.primal.proofs.run.Given as goal
 
 abbrev pub invariant-loop-next : goal.invariant-loop-next
 invariant-loop-next l =

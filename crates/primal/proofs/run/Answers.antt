@@ -3,18 +3,20 @@ use Rattle.std.proofs.lemmas.Result.{err_from_is_err_and}
 use Rattle.record.proofs.Read.{read_size}
 use Rattle.rules.specs.Act.{world_of}
 use Rattle.tape.proofs.Tails.{tail}
-use Rattle.primal.proofs.Loop.{follows, unsound_out, stopped-out}
-use Rattle.primal.proofs.Checked.{sound_words}
-use Rattle.primal.proofs.running.run.Goals as goal
+use Rattle.primal.proofs.Loop.{follows, refused_out, stopped-out}
+use Rattle.primal.proofs.Checked.{checked_sound, refused_check}
+use Rattle.primal.proofs.run.Goals as goal
 
-pub returns-in_err-check : goal.returns-in_err-check
-returns-in_err-check c =
+pub returns-in_err-map_err : goal.returns-in_err-map_err
+returns-in_err-map_err c =
     let p = err_from_is_err_and c.from_residual.result c.from_residual.ensures.1 in
-    rw (p.1, p.2, c.in_err-check.ensures.0) (unsound_out _ _ _ _ c.in_err-check.ensures.1)
+    rw (p.1, p.2)
+    (refused_check _ c.check.result _ _ c.check.ensures c.in_err-map_err.ensures.variant c.in_err-map_err.ensures.cases
+    (λ n q r. refused_out _ _ _ _ _ n _ (search rules) (search rules) r))
 
 pub returns-in-Err : goal.returns-in-Err
 returns-in-Err c =
-    stopped-out _ _ _ _ _ _ _ _ _ _ _ _ (sound_words c.in_ok-check.field-0 _ c.in_ok-check.ensures) (search rules) c.loop-next.invariant.runs
+    stopped-out _ _ _ _ _ _ _ _ _ _ _ _ (checked_sound _ c.check.result c.check.ensures c.in_ok-map_err.ensures.variant) (search rules) c.loop-next.invariant.runs
     (follows _ _ _ _ _ c.room.ensures _ _ c.in-Err.ensures refl)
 
 pub slice_bounds-rest-count : goal.slice_bounds-rest-count
