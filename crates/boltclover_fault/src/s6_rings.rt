@@ -90,7 +90,7 @@ fn wrong_ring(t: &Table, b: Node) -> Wrong {
         return Wrong::NoRing;
     }
     let mut seen = [0u8; 256];
-    let Some(count) = s6_rings::walk_ring(t, &mut seen, b, first) else {
+    let Some(count) = s6_rings::walk_ring_lent(t, &mut seen, b, first) else {
         return wrong_way_round(t, b, first);
     };
     match first_unmarked(&seen, |n| s6_rings::is_inner_child(t, b, n)) {

@@ -9,6 +9,8 @@ pub mod s5_child_lists;
 pub mod s6_rings;
 pub mod s7_ways_up;
 pub mod s8_touches;
+#[cfg(test)]
+mod tests;
 
 ghost use Rattle.std.specs.Prelude.{◌≡◌};
 ghost use Rattle.table.specs.Words.{table_of};

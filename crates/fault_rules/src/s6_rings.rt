@@ -9,9 +9,9 @@ ghost use Rattle.fault_rules.specs.Walked.{is_ring_node, ring_listed, ring_fits,
 
 use slot::Node;
 use sound_slots::value;
-use sound_walks::marking::walk;
+use sound_walks::marking::{walk, walk_lent};
 use sound_walks::numbers::is_odd_ring;
-use table::{Table, field, marks};
+use table::{Marks, Table, field, marks};
 
 // The node after n on the ring that begins with another; none where that is the first again.
 // Kept: 65,535 for none, as the definition has it and the walk along a list takes it.
@@ -36,11 +36,21 @@ fn is_ring_node(t: &Table, b: Node, n: Node) -> bool
 }
 
 // Around the ring: marks its nodes and counts them. None where it does not come back, or meets a node that is not b's.
-pub fn walk_ring(t: &Table, seen: &mut [u8], b: Node, first: Node) -> Option<u16>
+pub fn walk_ring(t: &Table, seen: &mut Marks, b: Node, first: Node) -> Option<u16>
     ensures walked { walked_of (unwrap_or result none) seen.new ≡ marking 256 (next_in_ring (table_of t.now) first.0) (is_ring_node (table_of t.now) b.0) first.0 0 seen.old }
     ensures few { IfSome result (λ count. count ≤ 256) }
 {
-    walk(
+    let after = |n: Node| next_in_ring(t, first, n);
+    let on_ring = |n: Node| is_ring_node(t, b, n);
+    walk(seen, first, after, on_ring)
+}
+
+// The same with the marks in lent bytes of any length.
+pub fn walk_ring_lent(t: &Table, seen: &mut [u8], b: Node, first: Node) -> Option<u16>
+    ensures walked { walked_of (unwrap_or result none) seen.new ≡ marking 256 (next_in_ring (table_of t.now) first.0) (is_ring_node (table_of t.now) b.0) first.0 0 seen.old }
+    ensures few { IfSome result (λ count. count ≤ 256) }
+{
+    walk_lent(
         seen,
         first,
         |n| next_in_ring(t, first, n),
@@ -65,7 +75,7 @@ fn ring_holds(t: &Table, b: Node) -> bool
 {
     let first = field::get_first_blossom_child(t, b);
     let mut seen = [0u8; 256];
-    let Some(count) = walk_ring(t, &mut seen, b, first) else {
+    let Some(count) = walk_ring_lent(t, &mut seen, b, first) else {
         return false;
     };
     is_odd_ring(u32::from(count)) && all_on_ring(t, &seen, b)

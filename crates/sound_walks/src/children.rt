@@ -5,7 +5,7 @@ ghost use Rattle.rules.specs.Sound.{is_outer_child};
 ghost use Rattle.sound_walks.specs.Marks.{judged_of, sweep};
 ghost use Rattle.sound_walks.specs.Lists.{list_step};
 
-use crate::marking::walk;
+use crate::marking::walk_lent;
 use slot::Node;
 use table::{Table, field};
 
@@ -21,7 +21,7 @@ pub fn list_step(t: &Table, seen: &mut [u8], i: Node) -> bool
     ensures { judged_of result seen.new ≡ list_step (table_of t.now) i.0 seen.old }
 {
     let child = field::first_child(t, i);
-    walk(seen, child, |n| field::sibling(t, n), |n| is_child(t, i, n)).is_some()
+    walk_lent(seen, child, |n| field::sibling(t, n), |n| is_child(t, i, n)).is_some()
 }
 
 // The lists of the slots from one number to before another.
