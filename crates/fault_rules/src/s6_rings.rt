@@ -46,6 +46,7 @@ pub fn walk_ring(t: &Table, seen: &mut Marks, b: Node, first: Node) -> Option<u1
 }
 
 // The same with the marks in lent bytes of any length.
+// Kept: beside walk_ring, as walk_lent is beside walk.
 pub fn walk_ring_lent(t: &Table, seen: &mut [u8], b: Node, first: Node) -> Option<u16>
     ensures walked { walked_of (unwrap_or result none) seen.new ≡ marking 256 (next_in_ring (table_of t.now) first.0) (is_ring_node (table_of t.now) b.0) first.0 0 seen.old }
     ensures few { IfSome result (λ count. count ≤ 256) }

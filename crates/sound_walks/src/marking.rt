@@ -34,6 +34,7 @@ pub fn walk<N: Fn(Node) -> Node, M: Fn(Node) -> bool>(
 }
 
 // The same walk with its marks in lent bytes of any length.
+// Kept: beside walk; a Marks has no bytes to lend, and lent bytes are no Marks.
 pub fn walk_lent<N: Fn(Node) -> Node, M: Fn(Node) -> bool>(
     seen: &mut [u8],
     from: Node,
